@@ -1,0 +1,1 @@
+// What is true of the meaning: specs/. There is no code.
