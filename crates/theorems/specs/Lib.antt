@@ -21,3 +21,5 @@ pub mod Settling
 pub mod Edits
 pub mod Invariant
 pub mod Outcomes
+pub mod Running
+pub mod Ran

@@ -65,10 +65,10 @@ meet L (l ∷ a) (m ∷ b) t u p q x y e =
 
 -- What the loader makes of lines.
 
-abbrev withMarks : Row → List ℕ → Row
+abbrev pub withMarks : Row → List ℕ → Row
 withMarks r ms = record { depth = r .depth; spot = r .spot; map = r .map; list = r .list; marks = ms; values = r .values }
 
-abbrev withValues : Row → List Value → Row
+abbrev pub withValues : Row → List Value → Row
 withValues r vs = record { depth = r .depth; spot = r .spot; map = r .map; list = r .list; marks = r .marks; values = vs }
 
 load-marks : (s : List ℕ) (r : Row) (rs : List Row) (ms : List ℕ) (ls : List Line)
@@ -108,7 +108,7 @@ says-document D = load-rows (D .seen) (rowsOf D) [] (endLine (length (rowsOf D))
 
 -- Verdicts.
 
-ended-eq : (s t : List ℕ) (rs us : List Row) → ended s rs ≡ ended t us → (s ≡ t) × (rs ≡ us)
+pub ended-eq : (s t : List ℕ) (rs us : List Row) → ended s rs ≡ ended t us → (s ≡ t) × (rs ≡ us)
 ended-eq s t rs us e = (cc, cc)
 
 reverse-eq : (xs ys : List Row) → reverse xs ≡ reverse ys → xs ≡ ys

@@ -104,16 +104,16 @@ module _ {A : Type 0} where
         go false f r (inl q) = absurd (true≢false (sym (s x q) ∙ f))
         go false f r (inr h) = rw (keep-no p x xs f) (r h)
 
-    has-left : (j : ℕ) (xs ys : List A) → Has number j xs → Has number j (xs ++ ys)
+    pub has-left : (j : ℕ) (xs ys : List A) → Has number j xs → Has number j (xs ++ ys)
     has-left j [] ys h = absurd h
     has-left j (x ∷ xs) ys (inl q) = inl q
     has-left j (x ∷ xs) ys (inr h) = inr (has-left j xs ys h)
 
-    has-right : (j : ℕ) (xs ys : List A) → Has number j ys → Has number j (xs ++ ys)
+    pub has-right : (j : ℕ) (xs ys : List A) → Has number j ys → Has number j (xs ++ ys)
     has-right j [] ys h = h
     has-right j (x ∷ xs) ys h = inr (has-right j xs ys h)
 
-    has-append : (j : ℕ) (xs ys : List A) → Has number j (xs ++ ys) → Has number j xs ⊎ Has number j ys
+    pub has-append : (j : ℕ) (xs ys : List A) → Has number j (xs ++ ys) → Has number j xs ⊎ Has number j ys
     has-append j [] ys h = inr h
     has-append j (x ∷ xs) ys (inl q) = inl (inl q)
     has-append j (x ∷ xs) ys (inr h) = ⊎-elim (λ u. inl (inr u)) (λ u. inr u) (has-append j xs ys h)
@@ -150,7 +150,7 @@ module _ {A : Type 0} where
         go true e r = rw (keep-yes p x xs e) ((λ j u. h .0 j (has-keep p j xs u)), r)
         go false e r = rw (keep-no p x xs e) r
 
-    asc-append : (xs ys : List A) → Ascending number xs → Ascending number ys
+    pub asc-append : (xs ys : List A) → Ascending number xs → Ascending number ys
         → ((i j : ℕ) → Has number i xs → Has number j ys → i < j) → Ascending number (xs ++ ys)
     asc-append [] ys h k s = k
     asc-append (x ∷ xs) ys h k s = (
