@@ -23,3 +23,7 @@ pub mod Invariant
 pub mod Outcomes
 pub mod Running
 pub mod Ran
+pub mod Taken
+pub mod Accepting
+pub mod Sizes
+pub mod Determined

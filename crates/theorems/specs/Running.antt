@@ -92,7 +92,7 @@ pub record Room (s : List ℕ) (rs xs : List Row) : Type 0 where
 element-once : (i : ℕ) → isElement i (inList i) ≡ 1
 element-once i = rw (eq-eqb i i refl)
 
-named : (s : List ℕ) (rs : List Row) (x : Row) (xs : List Row) → Room s rs (x ∷ xs) → KeyOf (x .spot) → Named s rs (x .spot)
+pub named : (s : List ℕ) (rs : List Row) (x : Row) (xs : List Row) → Room s rs (x ∷ xs) → KeyOf (x .spot) → Named s rs (x .spot)
 unfolding times
 named s rs x xs m k = go (x .spot) refl k
   where
@@ -102,7 +102,7 @@ named s rs x xs m k = go (x .spot) refl k
         let o : isElement i (x .spot) ≡ 1 = ap (isElement i) e ∙ element-once i in
         (m .known i (omega arith), omega (arith, m .once i))
 
-moves : (s : List ℕ) (rs : List Row) (x : Row) (xs : List Row) → RowRule s x rs → Room s rs (x ∷ xs) → Room s (x ∷ rs) xs
+pub moves : (s : List ℕ) (rs : List Row) (x : Row) (xs : List Row) → RowRule s x rs → Room s rs (x ∷ xs) → Room s (x ∷ rs) xs
 unfolding times marksIn valuesIn
 moves s rs x xs r m = record {
   places = omega (arith, m .places);

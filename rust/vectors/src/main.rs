@@ -1,0 +1,92 @@
+//! `vectors`: writes scripts and streams, plays scripts, keeps and counts the kept ones.
+
+use std::io::{self, Read, Write};
+use std::path::Path;
+use std::process::ExitCode;
+use std::{env, fs};
+
+use vectors::counts::Counts;
+use vectors::{fresh, kept, kinds, replay};
+
+const USAGE: &str = "\
+vectors script KIND SEED    a script of that kind on standard output
+vectors answers             plays the script on standard input, its answers on standard output
+vectors fresh SEED COUNT    a stream of COUNT messages for merge on standard output
+vectors keep DIR            writes the kept files to DIR
+vectors counts DIR          how often each answer number stands in the answers kept in DIR
+kinds:";
+
+fn main() -> ExitCode {
+    let arguments: Vec<String> = env::args().skip(1).collect();
+    let arguments: Vec<&str> = arguments.iter().map(String::as_str).collect();
+    match run(&arguments) {
+        Ok(true) => ExitCode::SUCCESS,
+        Ok(false) => {
+            let names: Vec<&str> = kinds::KINDS.iter().map(|(name, _)| *name).collect();
+            eprintln!("{USAGE} {}", names.join(" "));
+            ExitCode::from(2)
+        }
+        Err(error) => {
+            eprintln!("vectors: {error}");
+            ExitCode::FAILURE
+        }
+    }
+}
+
+/// False if the arguments make no sense.
+fn run(arguments: &[&str]) -> io::Result<bool> {
+    match arguments {
+        ["script", kind, seed] => {
+            let kind = kinds::KINDS.iter().find(|(name, _)| name == kind);
+            let (Some((_, write)), Ok(seed)) = (kind, seed.parse()) else {
+                return Ok(false);
+            };
+            print(&write(seed))?;
+        }
+        ["answers"] => {
+            let mut script = Vec::new();
+            io::stdin().lock().read_to_end(&mut script)?;
+            print(&replay::replay(&script))?;
+        }
+        ["fresh", seed, count] => {
+            let (Ok(seed), Ok(count)) = (seed.parse(), count.parse()) else {
+                return Ok(false);
+            };
+            print(&fresh::stream(seed, count))?;
+        }
+        ["keep", folder] => {
+            for (name, bytes) in kept::files() {
+                fs::write(Path::new(folder).join(name), bytes)?;
+            }
+        }
+        ["counts", folder] => counts(folder)?,
+        _ => return Ok(false),
+    }
+    Ok(true)
+}
+
+fn print(bytes: &[u8]) -> io::Result<()> {
+    io::stdout().lock().write_all(bytes)
+}
+
+/// A row for each kind and one for all, a column for each answer number.
+fn counts(folder: &str) -> io::Result<()> {
+    let numbers: Vec<usize> = (0..=14).collect();
+    println!("{}", row("answer", &numbers));
+    let mut all = Counts::default();
+    for (name, _) in kinds::KINDS {
+        let answers = fs::read(Path::new(folder).join(format!("{name}.answers")))?;
+        let mut counts = Counts::default();
+        counts.add(&answers);
+        all.add(&answers);
+        println!("{}", row(name, &counts.calls));
+    }
+    println!("{}", row("all calls", &all.calls));
+    println!("{}", row("verdicts", &all.verdicts));
+    Ok(())
+}
+
+fn row(name: &str, numbers: &[usize]) -> String {
+    let numbers: Vec<String> = numbers.iter().map(|number| format!("{number:5}")).collect();
+    format!("{name:9} {}", numbers.join(" "))
+}

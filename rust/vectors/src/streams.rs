@@ -1,0 +1,38 @@
+//! The kept streams of `merge`, by name.
+
+use crate::fresh;
+use crate::make::{deps, id, lines, message};
+
+/// A stream for each name.
+pub fn streams() -> Vec<(&'static str, Vec<u8>)> {
+    let example = example();
+    let late = String::from_utf8_lossy(&example).replacen("op=1\n", "op=1 \n", 1).into_bytes();
+    let joined: Vec<u8> = [b"op=1\n", &example[..], b"op=1\n"].concat();
+    vec![
+        ("merge-example", example.clone()),
+        ("merge-empty", Vec::new()),
+        ("merge-junk-first", [b"junk\n", &example[..]].concat()),
+        ("merge-junk-joined", [b"junk\nop=1", &example[..]].concat()),
+        ("merge-lf-first", [b"\n", &example[..]].concat()),
+        ("merge-first-damaged", late),
+        ("merge-begun-twice", joined),
+        ("merge-last-cut", example[..example.len() - 1].to_vec()),
+        ("merge-last-op-cut", [&example[..], b"op=1"].concat()),
+        ("merge-lf-behind", [&example[..], b"\n"].concat()),
+        ("merge-only-op", b"op=1\n".to_vec()),
+        ("merge-fresh-1", fresh::stream(1, 120)),
+        ("merge-fresh-2", fresh::stream(2, 400)),
+    ]
+}
+
+/// The five messages of document 01.
+fn example() -> Vec<u8> {
+    [
+        message(id(1, 1), &deps(&[]), &lines("73", "assign", "[")),
+        message(id(2, 1), &deps(&[1]), &lines("73[^", "insert", "s61")),
+        message(id(3, 1), &deps(&[2]), &lines("73[2.1", "insert", "s62")),
+        message(id(3, 2), &deps(&[2]), &lines("73[2.1", "insert", "s63")),
+        message(id(4, 1), &deps(&[3]), &lines("73[2.1", "delete", "")),
+    ]
+    .concat()
+}

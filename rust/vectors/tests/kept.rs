@@ -1,0 +1,136 @@
+//! The kept vectors are what the generator gives, and they show what they are kept for.
+
+use std::collections::BTreeSet;
+use std::fs;
+use std::path::PathBuf;
+
+use sheet::{Branches, Document, MOST, MOST_WAITING};
+use vectors::call::{Call, GREATEST, LONGEST_BUFFER};
+use vectors::counts::Counts;
+use vectors::kept::files;
+use vectors::kinds::KINDS;
+use vectors::replay::{perform, replay};
+
+/// 2 MiB
+const MOST_KEPT: usize = 2 * 1024 * 1024;
+
+fn folder() -> PathBuf {
+    PathBuf::from(env!("CARGO_MANIFEST_DIR")).join("../../vectors")
+}
+
+fn kept(name: &str) -> Vec<u8> {
+    fs::read(folder().join(name)).unwrap_or_else(|error| panic!("{name}: {error}"))
+}
+
+#[test]
+fn the_generator_gives_the_very_bytes() {
+    let files = files();
+    for (name, bytes) in &files {
+        assert!(kept(name) == *bytes, "{name} is not what `vectors keep` writes");
+    }
+    let made: BTreeSet<String> = files.into_iter().map(|(name, _)| name).collect();
+    let there: BTreeSet<String> = fs::read_dir(folder())
+        .unwrap()
+        .map(|entry| entry.unwrap().file_name().into_string().unwrap())
+        .filter(|name| !name.starts_with('.'))
+        .collect();
+    assert_eq!(there, made);
+}
+
+#[test]
+fn they_are_2_mib_at_most() {
+    let size: usize = files().iter().map(|(_, bytes)| bytes.len()).sum();
+    assert!(size <= MOST_KEPT, "{size}");
+}
+
+#[test]
+fn each_answer_is_there_but_9() {
+    let mut counts = Counts::default();
+    for (name, _) in KINDS {
+        counts.add(&kept(&format!("{name}.answers")));
+    }
+    for (number, &count) in counts.calls.iter().enumerate() {
+        assert_eq!(count == 0, number == 9, "{number} stands there {count} times");
+    }
+    assert!(counts.verdicts[0] > 300 && counts.verdicts[1] > 300, "{:?}", counts.verdicts);
+    assert_eq!(counts.verdicts[2..], [0; 13]);
+}
+
+#[test]
+fn a_script_is_its_calls_again_and_its_lines_are_short() {
+    for (name, _) in KINDS {
+        let script = kept(&format!("{name}.script"));
+        let mut again = Vec::new();
+        let mut rest = &script[..];
+        while let Some(call) = Call::take(&mut rest) {
+            call.write(&mut again);
+            let (buffer, number) = match call {
+                Call::Edit { device, buffer, .. } => (buffer, device),
+                Call::Element { index, buffer, .. } => (buffer, index),
+                Call::Save { buffer } | Call::Keys { buffer, .. } | Call::Values { buffer, .. } => {
+                    (buffer, 0)
+                }
+                _ => (0, 0),
+            };
+            assert!(buffer <= LONGEST_BUFFER && number <= GREATEST);
+        }
+        assert!(again == script, "{name}");
+    }
+}
+
+#[test]
+fn no_answer_says_changed() {
+    for (name, _) in KINDS {
+        let answers = kept(&format!("{name}.answers"));
+        for line in answers.split(|&byte| byte == b'\n') {
+            assert!(!line.ends_with(b" changed"), "{name}");
+        }
+    }
+}
+
+#[test]
+fn the_limits_are_reached() {
+    let mut most = sheet::Size::default();
+    let mut most_waiting = 0;
+    let mut deepest = 0;
+    let mut longest = 0;
+    for (name, _) in KINDS {
+        let script = kept(&format!("{name}.script"));
+        let mut document = Document::new();
+        let mut rest = &script[..];
+        while let Some(call) = Call::take(&mut rest) {
+            let reply = perform(&mut document, &call, &mut Vec::new());
+            let size = document.size();
+            most.places = most.places.max(size.places);
+            most.marks = most.marks.max(size.marks);
+            most.values = most.values.max(size.values);
+            most_waiting = most_waiting.max(document.waiting().len());
+            longest = longest.max(reply.written.len());
+            if let Call::Save { .. } = call {
+                deepest = deepest.max(depth(document.root()));
+            }
+        }
+    }
+    assert_eq!(most, MOST);
+    assert_eq!(most_waiting, MOST_WAITING);
+    assert_eq!(deepest, 8);
+    assert_eq!(longest, 51_053, "the longest sheet");
+}
+
+/// The greatest depth of a place under `branches`.
+fn depth(branches: &Branches) -> usize {
+    let keys = branches.map.iter().flat_map(|map| map.values());
+    let elements = branches.elements().iter().map(|element| &element.place);
+    keys.chain(elements).map(|place| 1 + depth(&place.under)).max().unwrap_or(0)
+}
+
+#[test]
+fn another_seed_gives_another_script_that_can_be_played() {
+    for (name, write) in KINDS {
+        for seed in 2..6 {
+            let script = write(seed);
+            assert!(!replay(&script).is_empty());
+            assert!(script != kept(&format!("{name}.script")), "{name}");
+        }
+    }
+}
