@@ -1,5 +1,5 @@
--- Demand 3, the sheet: a text is accepted exactly if it is the sheet of a sound document within the limits. So loading a saved sheet gives the
--- document back, no other spelling of it is accepted, and documents are equal exactly when their sheets are.
+-- Demand 3, the sheet: a text is accepted exactly if it is the sheet of a sound document within the limits. So loading a saved sheet gives
+-- the document back, no other spelling of it is accepted, and documents are equal exactly when their sheets are.
 -- Assumes nothing.
 use Prim.Native.Nat.{ℕ, suc, _+_, _≤_, _<_}
 use native.Mathlib.Omega.{arith}
@@ -76,11 +76,15 @@ mutual
 
   size-children : (ks : Children) (n : ℕ) → Sizes (sizeChildren ks) (rowsChildren n ks)
   size-children childless n = no-size
-  size-children (child k c ks) n = sizes-append (size c) (sizeChildren ks) (rowOf n (inMap k) c ∷ rows (suc n) c) (rowsChildren n ks) (size-place c n (inMap k)) (size-children ks n)
+  size-children (child k c ks) n =
+      sizes-append (size c) (sizeChildren ks) (rowOf n (inMap k) c ∷ rows (suc n) c) (rowsChildren n ks) (size-place c n (inMap k))
+      (size-children ks n)
 
   size-elements : (es : Elements) (n : ℕ) → Sizes (sizeElements es) (rowsElements n es)
   size-elements empty n = no-size
-  size-elements (element i c es) n = sizes-append (size c) (sizeElements es) (rowOf n (inList i) c ∷ rows (suc n) c) (rowsElements n es) (size-place c n (inList i)) (size-elements es n)
+  size-elements (element i c es) n =
+      sizes-append (size c) (sizeElements es) (rowOf n (inList i) c ∷ rows (suc n) c) (rowsElements n es) (size-place c n (inList i))
+      (size-elements es n)
 
 -- the limits, of a document's rows
 pub record Limits (rs : List Row) : Type 0 where

@@ -4,19 +4,19 @@
 use Prim.Native.Nat.{ℕ, zero, suc, _+_, _-_, _*_, _/_, _%_, _≤_, _<_}
 use native.Mathlib.Omega.{arith}
 use mathlib.Core.Path.{_≡_, refl, sym, ap, _∙_}
-use mathlib.Core.Bool.{Bool, true, false, cond, _&&_, _||_}
+use mathlib.Core.Bool.{Bool, true, false, cond, _||_}
 use mathlib.Core.List.{List, [], _∷_, _++_, append-assoc}
 use lib.Dec.{leb, ltb, eqb}
 use lib.IntN.{ℤ, pos, negsuc}
-use lib.ListN.{length, drop, length-append}
-use borrow.Author.Tests.{lt-ltb, le-ltb, ltb-true, ltb-false, le-leb, lt-leb, ne-eqb}
+use lib.ListN.{length, drop}
+use borrow.Author.Tests.{ltb-true, ltb-false, le-leb, lt-leb, ne-eqb}
 use Rattle.meaning.specs.Ascii.{byte}
 use Rattle.meaning.specs.Places.{Plain, null, bool, integer, string}
 use Rattle.meaning.specs.Ways.{Assigned, plain, emptyMap, emptyList}
 use Rattle.meaning.specs.Valid.{Bytes, ValidPlain, ValidAssigned}
 use Rattle.meaning.specs.Text.{decimal, integerText, idText, commaText, countersText, hexDigit, hex, plainText, assignedText}
 use Rattle.theorems.specs.Decide.{or-left, or-right}
-use Rattle.theorems.specs.Decimal.{isDigit, isHex, Stops, digit-yes, readNumber, number-back, decimal-first}
+use Rattle.theorems.specs.Decimal.{isHex, Stops, digit-yes, readNumber, number-back, decimal-first}
 
 -- what is read back is what was written: two texts that are equal say the same, and the same follows
 pub once : {A : Type 0} (text : A → List ℕ) (read : List ℕ → A × List ℕ) (v w : A) (t u : List ℕ)
@@ -120,7 +120,8 @@ hex-yes n l = go (ltb n 10) refl
     go true e = rw (digit-yes n (ltb-true n 10 e))
     go false e =
         let h = ltb-false n 10 e in
-        rw (lt-leb (97 + (n - 10)) 57 (omega arith), le-leb 48 (97 + (n - 10)) (omega arith), le-leb 97 (97 + (n - 10)) (omega arith), le-leb (97 + (n - 10)) 102 (omega arith))
+        let c = 97 + (n - 10) in
+        rw (lt-leb c 57 (omega arith), le-leb 48 c (omega arith), le-leb 97 c (omega arith), le-leb c 102 (omega arith))
 
 -- two digits, if the first is one, ahead of what is read behind them
 hexByte : Bool → ℕ → ℕ → List ℕ → List ℕ × List ℕ → List ℕ × List ℕ

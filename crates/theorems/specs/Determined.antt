@@ -81,7 +81,8 @@ loads-once T bytes (L.BadLine n) (L.BadLine m) U V′ p q = (ap L.BadLine (broke
 -- The three reads.
 
 module _ {A : Type 0} (Valid : A → Type 0) (text : A → List ℕ) (one : OneSpelling Valid text) (look : A → Document → Told) where
-  asked-once : {bytes : List ℕ} (p q : Says Valid text bytes) (D : Document) (buffer : List ℕ) → asked look p D buffer ≡ asked look q D buffer
+  asked-once : {bytes : List ℕ} (p q : Says Valid text bytes) (D : Document) (buffer : List ℕ)
+      → asked look p D buffer ≡ asked look q D buffer
   asked-once (says a v e) (says b w g) D buffer = ap (λ w. answerRead (look w D) buffer) (one a b v w (sym e ∙ g))
   asked-once (says a v e) (saysNothing n) D buffer = absurd (n a v e)
   asked-once (saysNothing n) (says b w g) D buffer = absurd (n b w g)

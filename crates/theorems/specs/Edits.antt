@@ -1,17 +1,20 @@
 -- A local edit's operation: unless a seen entry is the last counter it is valid; its counter is above every entry; it is ready at once.
 -- Assumes nothing.
-use Prim.Native.Nat.{ℕ, suc, _≤_, _<_}
+use Prim.Native.Nat.{ℕ, suc, _≤_}
 use native.Mathlib.Omega.{arith}
 use mathlib.Core.Path.{_≡_, refl}
 use mathlib.Core.Bool.{true, false}
-use mathlib.Core.List.{List, [], _∷_}
-use borrow.Author.Tests.{le-leb, lt-leb, le-ltb, lt-ltb, eq-eqb}
-use Rattle.meaning.specs.Ids.{idOf, counterOf, entryOf, entry, atMost, allBelow, ready}
+use mathlib.Core.List.{List}
+use borrow.Author.Tests.{lt-leb, le-ltb}
+use Rattle.meaning.specs.Ids.{idOf, counterOf, entryOf, entry, ready}
 use Rattle.meaning.specs.Ways.{Way}
 use Rattle.meaning.specs.Judge.{notAbove, repeated, crossed}
 use Rattle.meaning.specs.Edit.{largest, spent, editOf}
 use Rattle.meaning.specs.Valid.{ValidCounters, ValidEdit, ValidOperation}
-use Rattle.theorems.specs.Counters.{le-largest, largest-lt}
+use Rattle.theorems.specs.Counters.{own-others-ready, le-largest, largest-lt}
+use Rattle.theorems.specs.Commute.{Known}
+use Rattle.theorems.specs.Converge.{Ready}
+use Rattle.theorems.specs.Tests.{Checked, checked-above}
 
 counter-is : (c r : ℕ) → r ≤ 8 → counterOf (idOf c r) ≡ c
 counter-is c r h = omega arith
@@ -33,24 +36,22 @@ unfolding repeated
 edit-new s r top w h =
     lt-leb (counterOf (editOf s r top w .id)) _ (omega (arith, edit-counter s r top w h, le-largest s (entryOf (editOf s r top w .id))))
 
-all-below : (c : ℕ) (s : List ℕ) → largest s < c → allBelow c s ≡ true
-unfolding allBelow largest
-all-below c [] h = refl
-all-below c (x ∷ s) h = rw (lt-ltb x c (omega arith)) (all-below c s (omega arith))
+pub edit-checked : (s : List ℕ) (r : ℕ) (top : List ℕ) (w : Way) → r ≤ 8 → Checked (editOf s r top w)
+unfolding editOf
+edit-checked s r top w h k = omega (arith, edit-counter s r top w h, le-largest s k)
 
 pub edit-above : (s : List ℕ) (r : ℕ) (top : List ℕ) (w : Way) → r ≤ 8 → notAbove (editOf s r top w) ≡ false
-unfolding notAbove editOf
-edit-above s r top w h = rw (all-below (counterOf (editOf s r top w .id)) s (omega (arith, counter-is (suc (largest s)) r h)))
+edit-above s r top w h = checked-above (editOf s r top w) (edit-checked s r top w h)
 
 pub edit-own : (s : List ℕ) (r : ℕ) (top : List ℕ) (w : Way) → crossed s (editOf s r top w) ≡ false
 unfolding crossed editOf
 edit-own s r top w = le-ltb (entry s (entryOf (editOf s r top w .id))) _ (omega arith)
 
-at-most-self : (s : List ℕ) → atMost s s ≡ true
-unfolding atMost
-at-most-self [] = refl
-at-most-self (x ∷ s) = rw (le-leb x x (omega arith)) (at-most-self s)
-
+-- it is ready: as the test says, and as convergence asks for it
 pub edit-ready : (s : List ℕ) (r : ℕ) (top : List ℕ) (w : Way) → ready s (editOf s r top w .id) (editOf s r top w .deps) ≡ true
-unfolding ready editOf
-edit-ready s r top w = rw (eq-eqb (entry s (entryOf (editOf s r top w .id))) _ refl) (at-most-self s)
+unfolding editOf
+edit-ready s r top w = own-others-ready s (editOf s r top w .id) s refl (λ k. omega arith)
+
+pub edit-goes : (s : List ℕ) (r : ℕ) (top : List ℕ) (w : Way) → r ≤ 8 → Known s w → Ready s (editOf s r top w)
+unfolding editOf
+edit-goes s r top w h u = record { own = refl; others = λ k. omega arith; above = edit-checked s r top w h; known = u }

@@ -1,18 +1,16 @@
--- The rules of a sheet, row by row: each row fits behind those before it. And where the place that a row hangs under, and the one that hangs
--- there before it, stand among them.
+-- The rules of a sheet, row by row: each row fits behind those before it. And where the place that a row hangs under, and the one that
+-- hangs there before it, stand among them.
 -- Assumes nothing.
 use Prim.Native.Nat.{ℕ, suc, _≤_, _<_}
 use native.Mathlib.Omega.{arith}
-use mathlib.Core.Path.{_≡_, refl, sym, ap, _∙_}
-use mathlib.Core.Bool.{Bool, true, false}
+use mathlib.Core.Path.{_≡_, refl, _∙_}
 use mathlib.Core.List.{List, [], _∷_, _++_, reverseAux, reverseAux-append}
-use lib.Dec.{ltb}
 use borrow.Author.Tests.{lt-ltb, le-ltb}
-use Rattle.meaning.specs.Places.{Value, Place, place, Children, childless, child, Elements, empty, element}
+use Rattle.meaning.specs.Places.{Place, place, Children, childless, child, Elements, empty, element}
 use Rattle.meaning.specs.Members.{All, Has, own}
 use Rattle.meaning.specs.Valid.{ValidKey}
 use Rattle.meaning.specs.Sheet.{Spot, inMap, inList, Row, rowOf, rows, rowsChildren, rowsElements}
-use Rattle.meaning.specs.Load.{Parent, root, under, parent, Elder, eldest, behind, elder, lastDepth, Seen, HasBranch, Follows}
+use Rattle.meaning.specs.Load.{Parent, root, under, parent, eldest, behind, elder, lastDepth, Seen, HasBranch, Follows}
 use Rattle.meaning.specs.Sound.{Own}
 use Rattle.theorems.specs.Rows.{row-depth}
 

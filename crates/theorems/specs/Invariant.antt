@@ -4,7 +4,7 @@
 use Prim.Native.Nat.{ℕ, _≤_}
 use native.Mathlib.Omega.{arith}
 use mathlib.Core.Path.{_≡_}
-use mathlib.Core.Bool.{Bool, true, false, not, _||_}
+use mathlib.Core.Bool.{Bool, true, false, not}
 use mathlib.Core.List.{List, [], _∷_}
 use lib.Dec.{eqb}
 use lib.ListN.{length}
@@ -17,7 +17,7 @@ use Rattle.meaning.specs.Limits.{fits}
 use Rattle.meaning.specs.Members.{All, Ascending}
 use Rattle.meaning.specs.Sound.{Sound}
 use Rattle.meaning.specs.Valid.{ValidEdit, ValidOperation}
-use Rattle.meaning.specs.Judge.{notAbove, repeated, crossed}
+use Rattle.meaning.specs.Judge.{notAbove, repeated}
 use Rattle.meaning.specs.Receive.{Terminal, newTerminal, dead, without, settle, Verdict, judge, finish, receive}
 use Rattle.meaning.specs.Edit.{EditVerdict, spent, editOf, judgeEdit, finishEdit, edit}
 use Rattle.meaning.specs.Message.{message}
@@ -27,8 +27,8 @@ use Rattle.meaning.specs.declared.Receipt.{Receipt}
 use Rattle.meaning.specs.declared.Edited.{Edited}
 use Rattle.meaning.specs.declared.Loaded.{Loaded}
 use Rattle.meaning.specs.declared.Loaded.the-variants as L
-use Rattle.theorems.specs.Decide.{or-left}
 use Rattle.theorems.specs.Members.{all-keep, all-put, keep-length, put-length, asc-keep, asc-put}
+use Rattle.theorems.specs.Tests.{living}
 use Rattle.theorems.specs.Edits.{edit-valid, edit-new}
 use Rattle.theorems.specs.Soundness.{sound-apply, sound-empty, fits-empty}
 use Rattle.theorems.specs.Settling.{Chosen, chosen-fits, settles}
@@ -76,16 +76,12 @@ steady-apply o T v r f s = record {
   few = s .few;
 }
 
-living-new : (D : Document) (o : Operation) → dead D o ≡ false → repeated (D .seen) o ≡ false
-unfolding dead
-living-new D o e = or-left (repeated (D .seen) o) (crossed (D .seen) o) (or-left (repeated (D .seen) o || crossed (D .seen) o) _ e)
-
 steady-chosen : (D : Document) (left : List Operation) (o : Operation) → Chosen D left o → Steady (record { document = D; waiting = left })
     → Steady (record { document = apply o D; waiting = without (o .id) left })
 unfolding without
 steady-chosen D left o c s =
     steady-keep (λ x. not (eqb (o .id) (x .id))) (apply o D) left
-    (steady-apply o (record { document = D; waiting = left }) (c .among Sent (s .sent) .valid) (living-new D o (c .lives))
+    (steady-apply o (record { document = D; waiting = left }) (c .among Sent (s .sent) .valid) (living D o (c .lives) .new)
     (chosen-fits D left o c) s)
 
 pub steady-settle : (T : Terminal) → Steady T → Steady (settle T .terminal)

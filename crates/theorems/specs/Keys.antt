@@ -1,19 +1,19 @@
 -- The laws of a map: the order of keys; changes at two keys commute, whatever keys it has; clearing.
 -- Assumes nothing.
-use Prim.Native.Nat.{ℕ, _<_, _≤_}
+use Prim.Native.Nat.{ℕ, _<_}
 use native.Mathlib.Omega.{arith}
 use mathlib.Core.Path.{_≡_, refl, sym, ap, _∙_}
-use mathlib.Core.Bool.{Bool, true, false, not, cond}
+use mathlib.Core.Bool.{Bool, true, false}
 use mathlib.Core.List.{List, [], _∷_}
 use mathlib.Core.Logic.{_≢_}
-use lib.Dec.{leb, ltb, eqb}
-use borrow.Author.Tests.{lt-ltb, le-ltb, eq-eqb, ne-eqb, eqb-true, eqb-false, ltb-true, ltb-false}
-use Rattle.meaning.specs.Places.{Turn, before, equal, beyond, order, Place, Children, childless, child, bare}
+use borrow.Author.Tests.{lt-ltb, le-ltb}
+use Rattle.meaning.specs.Places.{before, equal, beyond, order, Place, Children, childless, child, bare}
 use Rattle.meaning.specs.Apply.{atKey}
 use Rattle.meaning.specs.Clear.{clear, clearChildren}
 use Rattle.theorems.specs.Decide.{Tri, less, same, more, tri}
 
--- the order of keys
+-- The order of keys.
+
 turn-less : (x y : ℕ) (xs ys : List ℕ) → x < y → order (x ∷ xs) (y ∷ ys) ≡ before
 unfolding order
 turn-less x y xs ys h = rw (lt-ltb x y h, order)
@@ -83,56 +83,68 @@ order-trans (x ∷ a) (y ∷ b) (z ∷ c) e f = go (tri x y) (tri y z) (λ p q. 
     go (same p) (more q) r = absurd (no-beyond (sym f ∙ turn-more y z b c q))
     go (more p) q r = absurd (no-beyond (sym e ∙ turn-more x y a b p))
 
--- the clauses of `atKey`
-make : Bool → List ℕ → (Place → Place) → Children → Children
+-- The clauses of `atKey`.
+
+-- what comes before the greater keys, if an unknown place is made
+pub make : Bool → List ℕ → (Place → Place) → Children → Children
 make true k f ks = child k (f bare) ks
 make false k f ks = ks
 
-make-yes : (k : List ℕ) (f : Place → Place) (ks : Children) → make true k f ks ≡ child k (f bare) ks
+pub make-yes : (k : List ℕ) (f : Place → Place) (ks : Children) → make true k f ks ≡ child k (f bare) ks
 unfolding make
 make-yes k f ks = refl
 
-make-no : (k : List ℕ) (f : Place → Place) (ks : Children) → make false k f ks ≡ ks
+pub make-no : (k : List ℕ) (f : Place → Place) (ks : Children) → make false k f ks ≡ ks
 unfolding make
 make-no k f ks = refl
 
-key-none : (b : Bool) (k : List ℕ) (f : Place → Place) → atKey b k f childless ≡ make b k f childless
+pub key-childless : (b : Bool) (k : List ℕ) (f : Place → Place) → atKey b k f childless ≡ make b k f childless
 unfolding atKey make
-key-none true k f = refl
-key-none false k f = refl
+key-childless true k f = refl
+key-childless false k f = refl
 
-key-less : (b : Bool) (k : List ℕ) (f : Place → Place) (j : List ℕ) (c : Place) (ks : Children) → order k j ≡ before → atKey b k f (child j c ks) ≡ make b k f (child j c ks)
+pub key-less : (b : Bool) (k : List ℕ) (f : Place → Place) (j : List ℕ) (c : Place) (ks : Children) → order k j ≡ before
+    → atKey b k f (child j c ks) ≡ make b k f (child j c ks)
 unfolding atKey make
 key-less true k f j c ks h = rw (h, atKey)
 key-less false k f j c ks h = rw (h, atKey)
 
-key-same : (b : Bool) (k : List ℕ) (f : Place → Place) (j : List ℕ) (c : Place) (ks : Children) → order k j ≡ equal → atKey b k f (child j c ks) ≡ child j (f c) ks
+pub key-same : (b : Bool) (k : List ℕ) (f : Place → Place) (j : List ℕ) (c : Place) (ks : Children) → order k j ≡ equal
+    → atKey b k f (child j c ks) ≡ child j (f c) ks
 unfolding atKey
 key-same b k f j c ks h = rw (h, atKey)
 
-key-more : (b : Bool) (k : List ℕ) (f : Place → Place) (j : List ℕ) (c : Place) (ks : Children) → order k j ≡ beyond → atKey b k f (child j c ks) ≡ child j c (atKey b k f ks)
+pub key-more : (b : Bool) (k : List ℕ) (f : Place → Place) (j : List ℕ) (c : Place) (ks : Children) → order k j ≡ beyond
+    → atKey b k f (child j c ks) ≡ child j c (atKey b k f ks)
 unfolding atKey
 key-more b k f j c ks h = rw (h, atKey)
 
--- two keys
-key-make : (b : Bool) (k : List ℕ) (f : Place → Place) (a : Bool) (j : List ℕ) (g : Place → Place) (ks : Children) → order j k ≡ beyond → atKey a j g (make b k f ks) ≡ make b k f (atKey a j g ks)
+-- Changes at two keys.
+
+key-make : (b : Bool) (k : List ℕ) (f : Place → Place) (a : Bool) (j : List ℕ) (g : Place → Place) (ks : Children) → order j k ≡ beyond
+    → atKey a j g (make b k f ks) ≡ make b k f (atKey a j g ks)
 key-make true k f a j g ks h = simp (make-yes, key-more)
 key-make false k f a j g ks h = simp make-no
 
-under-none : (b : Bool) (k : List ℕ) (f : Place → Place) (a : Bool) (j : List ℕ) (g : Place → Place) → order k j ≡ before → atKey b k f (make a j g childless) ≡ make b k f (make a j g childless)
-under-none b k f true j g h = simp (make-yes, key-less)
-under-none b k f false j g h = simp (make-no, key-none)
+under-childless : (b : Bool) (k : List ℕ) (f : Place → Place) (a : Bool) (j : List ℕ) (g : Place → Place) → order k j ≡ before
+    → atKey b k f (make a j g childless) ≡ make b k f (make a j g childless)
+under-childless b k f true j g h = simp (make-yes, key-less)
+under-childless b k f false j g h = simp (make-no, key-childless)
 
-under-kid : (b : Bool) (k : List ℕ) (f : Place → Place) (a : Bool) (j : List ℕ) (g : Place → Place) (i : List ℕ) (c : Place) (ks : Children) → order k j ≡ before → order k i ≡ before → atKey b k f (make a j g (child i c ks)) ≡ make b k f (make a j g (child i c ks))
-under-kid b k f true j g i c ks h h′ = simp (make-yes, key-less)
-under-kid b k f false j g i c ks h h′ = simp (make-no, key-less)
+under-child : (b : Bool) (k : List ℕ) (f : Place → Place) (a : Bool) (j : List ℕ) (g : Place → Place) (i : List ℕ) (c : Place)
+    (ks : Children) → order k j ≡ before → order k i ≡ before
+    → atKey b k f (make a j g (child i c ks)) ≡ make b k f (make a j g (child i c ks))
+under-child b k f true j g i c ks h h′ = simp (make-yes, key-less)
+under-child b k f false j g i c ks h h′ = simp (make-no, key-less)
 
-key-lt : (b : Bool) (k : List ℕ) (f : Place → Place) (a : Bool) (j : List ℕ) (g : Place → Place) (ks : Children) → order k j ≡ before → order j k ≡ beyond → atKey b k f (atKey a j g ks) ≡ atKey a j g (atKey b k f ks)
-key-lt b k f a j g childless h h′ = simp (key-none, under-none, key-make)
+key-lt : (b : Bool) (k : List ℕ) (f : Place → Place) (a : Bool) (j : List ℕ) (g : Place → Place) (ks : Children) → order k j ≡ before
+    → order j k ≡ beyond → atKey b k f (atKey a j g ks) ≡ atKey a j g (atKey b k f ks)
+key-lt b k f a j g childless h h′ = simp (key-childless, under-childless, key-make)
 key-lt b k f a j g (child i c ks) h h′ = go (triK k i) (triK j i) (key-lt b k f a j g ks h h′)
   where
-    go : TriK k i → TriK j i → atKey b k f (atKey a j g ks) ≡ atKey a j g (atKey b k f ks) → atKey b k f (atKey a j g (child i c ks)) ≡ atKey a j g (atKey b k f (child i c ks))
-    go (lessK p p′) (lessK q q′) r = simp (key-less, key-make, under-kid)
+    go : TriK k i → TriK j i → atKey b k f (atKey a j g ks) ≡ atKey a j g (atKey b k f ks)
+        → atKey b k f (atKey a j g (child i c ks)) ≡ atKey a j g (atKey b k f (child i c ks))
+    go (lessK p p′) (lessK q q′) r = simp (key-less, key-make, under-child)
     go (lessK p p′) (sameK q) r = let q′ : order j i ≡ equal = rw q (order-self i) in simp (key-less, key-make, key-same)
     go (lessK p p′) (moreK q q′) r = simp (key-less, key-make, key-more)
     go (sameK p) (lessK q q′) r = absurd (no-beyond (sym q ∙ rw p at h′))
@@ -142,7 +154,8 @@ key-lt b k f a j g (child i c ks) h h′ = go (triK k i) (triK j i) (key-lt b k 
     go (moreK p p′) (sameK q) r = absurd (no-beyond (sym h ∙ (rw (sym q) at p)))
     go (moreK p p′) (moreK q q′) r = simp (key-more, r)
 
-pub key-key : (b : Bool) (k : List ℕ) (f : Place → Place) (a : Bool) (j : List ℕ) (g : Place → Place) (ks : Children) → k ≢ j → atKey b k f (atKey a j g ks) ≡ atKey a j g (atKey b k f ks)
+pub key-key : (b : Bool) (k : List ℕ) (f : Place → Place) (a : Bool) (j : List ℕ) (g : Place → Place) (ks : Children) → k ≢ j
+    → atKey b k f (atKey a j g ks) ≡ atKey a j g (atKey b k f ks)
 key-key b k f a j g ks n = go (triK k j)
   where
     go : TriK k j → atKey b k f (atKey a j g ks) ≡ atKey a j g (atKey b k f ks)
@@ -153,43 +166,58 @@ key-key b k f a j g ks n = go (triK k j)
 pub less-ne : (k j : List ℕ) → order k j ≡ before → k ≢ j
 less-ne k j p q = no-equal (sym p ∙ rw q (order-self j))
 
--- one key
+-- Two changes at one key.
+
+-- where no place is made, a bare one is left bare
 abbrev pub Meek : Bool → (Place → Place) → Type 0
 Meek b f = b ≡ false → f bare ≡ bare
 
-made : (b : Bool) (k : List ℕ) (f : Place → Place) (a : Bool) (g : Place → Place) (ks : Children) → ((c : Place) → f (g c) ≡ g (f c)) → Meek b f → Meek a g → ((b : Bool) (f : Place → Place) → atKey b k f ks ≡ make b k f ks) → atKey b k f (make a k g ks) ≡ atKey a k g (make b k f ks)
+made : (b : Bool) (k : List ℕ) (f : Place → Place) (a : Bool) (g : Place → Place) (ks : Children) → ((c : Place) → f (g c) ≡ g (f c))
+    → Meek b f → Meek a g → ((b : Bool) (f : Place → Place) → atKey b k f ks ≡ make b k f ks)
+    → atKey b k f (make a k g ks) ≡ atKey a k g (make b k f ks)
 made true k f true g ks h u v e = let s = order-self k in simp (make-yes, key-same, h)
-made true k f false g ks h u v e = let s = order-self k in simp (make-yes, make-no, e, key-same) (ap (λ c. child k c ks) (sym (sym (h bare) ∙ ap f (v refl))))
-made false k f true g ks h u v e = let s = order-self k in simp (make-yes, make-no, e, key-same) (ap (λ c. child k c ks) (h bare ∙ ap g (u refl)))
+made true k f false g ks h u v e =
+    let s = order-self k in
+    simp (make-yes, make-no, e, key-same) (ap (λ c. child k c ks) (sym (sym (h bare) ∙ ap f (v refl))))
+made false k f true g ks h u v e =
+    let s = order-self k in
+    simp (make-yes, make-no, e, key-same) (ap (λ c. child k c ks) (h bare ∙ ap g (u refl)))
 made false k f false g ks h u v e = simp (make-no, e)
 
-pub key-both : (b : Bool) (k : List ℕ) (f : Place → Place) (a : Bool) (g : Place → Place) (ks : Children) → ((c : Place) → f (g c) ≡ g (f c)) → Meek b f → Meek a g → atKey b k f (atKey a k g ks) ≡ atKey a k g (atKey b k f ks)
-key-both b k f a g childless h u v = simp key-none (made b k f a g childless h u v (λ b f. key-none b k f))
+pub key-both : (b : Bool) (k : List ℕ) (f : Place → Place) (a : Bool) (g : Place → Place) (ks : Children)
+    → ((c : Place) → f (g c) ≡ g (f c)) → Meek b f → Meek a g → atKey b k f (atKey a k g ks) ≡ atKey a k g (atKey b k f ks)
+key-both b k f a g childless h u v = simp key-childless (made b k f a g childless h u v (λ b f. key-childless b k f))
 key-both b k f a g (child j c ks) h u v = go (triK k j) (key-both b k f a g ks h u v)
   where
-    go : TriK k j → atKey b k f (atKey a k g ks) ≡ atKey a k g (atKey b k f ks) → atKey b k f (atKey a k g (child j c ks)) ≡ atKey a k g (atKey b k f (child j c ks))
+    go : TriK k j → atKey b k f (atKey a k g ks) ≡ atKey a k g (atKey b k f ks)
+        → atKey b k f (atKey a k g (child j c ks)) ≡ atKey a k g (atKey b k f (child j c ks))
     go (lessK p q) r = simp key-less (made b k f a g (child j c ks) h u v (λ b f. key-less b k f j c ks p))
     go (sameK e) r = let s : order k j ≡ equal = rw e (order-self j) in simp (key-same, h)
     go (moreK p q) r = simp (key-more, r)
 
--- clearing
-clear-none : (d : List ℕ) → clearChildren d childless ≡ childless
-unfolding clearChildren
-clear-none d = refl
+-- Clearing.
 
-clear-kid : (d : List ℕ) (k : List ℕ) (c : Place) (ks : Children) → clearChildren d (child k c ks) ≡ child k (clear d c) (clearChildren d ks)
+pub clear-childless : (d : List ℕ) → clearChildren d childless ≡ childless
 unfolding clearChildren
-clear-kid d k c ks = refl
+clear-childless d = refl
 
-clear-make : (d : List ℕ) (b : Bool) (k : List ℕ) (f : Place → Place) (ks : Children) → clear d (f bare) ≡ f bare → clearChildren d (make b k f ks) ≡ make b k f (clearChildren d ks)
-clear-make d true k f ks h = simp (make-yes, clear-kid, h)
+pub clear-child : (d : List ℕ) (k : List ℕ) (c : Place) (ks : Children)
+    → clearChildren d (child k c ks) ≡ child k (clear d c) (clearChildren d ks)
+unfolding clearChildren
+clear-child d k c ks = refl
+
+clear-make : (d : List ℕ) (b : Bool) (k : List ℕ) (f : Place → Place) (ks : Children) → clear d (f bare) ≡ f bare
+    → clearChildren d (make b k f ks) ≡ make b k f (clearChildren d ks)
+clear-make d true k f ks h = simp (make-yes, clear-child, h)
 clear-make d false k f ks h = simp make-no
 
-pub clear-atKey : (d : List ℕ) (b : Bool) (k : List ℕ) (f : Place → Place) (ks : Children) → ((c : Place) → clear d (f c) ≡ f (clear d c)) → clear d (f bare) ≡ f bare → clearChildren d (atKey b k f ks) ≡ atKey b k f (clearChildren d ks)
-clear-atKey d b k f childless h u = simp (key-none, clear-none, clear-make)
+pub clear-atKey : (d : List ℕ) (b : Bool) (k : List ℕ) (f : Place → Place) (ks : Children) → ((c : Place) → clear d (f c) ≡ f (clear d c))
+    → clear d (f bare) ≡ f bare → clearChildren d (atKey b k f ks) ≡ atKey b k f (clearChildren d ks)
+clear-atKey d b k f childless h u = simp (key-childless, clear-childless, clear-make)
 clear-atKey d b k f (child j c ks) h u = go (triK k j) (clear-atKey d b k f ks h u)
   where
-    go : TriK k j → clearChildren d (atKey b k f ks) ≡ atKey b k f (clearChildren d ks) → clearChildren d (atKey b k f (child j c ks)) ≡ atKey b k f (clearChildren d (child j c ks))
-    go (lessK p q) r = simp (key-less, clear-kid, clear-make)
-    go (sameK e) r = let s : order k j ≡ equal = rw e (order-self j) in simp (key-same, clear-kid, h)
-    go (moreK p q) r = simp (key-more, clear-kid, r)
+    go : TriK k j → clearChildren d (atKey b k f ks) ≡ atKey b k f (clearChildren d ks)
+        → clearChildren d (atKey b k f (child j c ks)) ≡ atKey b k f (clearChildren d (child j c ks))
+    go (lessK p q) r = simp (key-less, clear-child, clear-make)
+    go (sameK e) r = let s : order k j ≡ equal = rw e (order-self j) in simp (key-same, clear-child, h)
+    go (moreK p q) r = simp (key-more, clear-child, r)

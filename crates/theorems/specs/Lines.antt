@@ -1,14 +1,14 @@
 -- The lines of a sheet: each text of a line says one line, and where it ends.
 -- Assumes nothing.
-use Prim.Native.Nat.{ℕ, _+_}
-use mathlib.Core.Path.{_≡_, refl, sym, ap, _∙_}
+use Prim.Native.Nat.{ℕ}
+use mathlib.Core.Path.{_≡_, refl}
 use mathlib.Core.Bool.{Bool, true, false, _||_}
 use mathlib.Core.List.{List, [], _∷_, _++_, append-assoc}
 use lib.Dec.{eqb}
 use lib.ListN.{length, getD, drop}
 use Rattle.meaning.specs.Ascii.{byte}
 use Rattle.meaning.specs.Valid.{Bytes}
-use Rattle.meaning.specs.Text.{decimal, idText, countersText, hex, plainText}
+use Rattle.meaning.specs.Text.{decimal, idText, countersText, plainText}
 use Rattle.meaning.specs.Sheet.{Spot, inMap, inList, flagsText, spotText, lineText}
 use Rattle.meaning.specs.Sheet.{Line, sheetLine, seenLine, placeLine, markLine, valueLine, endLine}
 use Rattle.theorems.specs.Decimal.{Stops, readNumber, number-back}

@@ -4,11 +4,9 @@
 use Prim.Native.Nat.{ℕ, suc, _<_}
 use native.Mathlib.Omega.{arith}
 use mathlib.Core.Path.{_≡_, refl, sym, ap, _∙_, subst}
-use mathlib.Core.Bool.{Bool}
 use mathlib.Core.List.{List, [], _∷_, _++_, map, append-assoc, append-nil, reverse, reverseAux}
 use lib.ListN.{length}
 use Rattle.meaning.specs.Places.{Value, Document}
-use Rattle.meaning.specs.Members.{All}
 use Rattle.meaning.specs.Sheet.{Spot, inMap, inList, Row, rowsOf, lineText, linesText, rowLines, rowsLines, sheetLines}
 use Rattle.meaning.specs.Sheet.{Line, sheetLine, seenLine, placeLine, markLine, valueLine, endLine}
 use Rattle.meaning.specs.Load.{Loading, begin, headed, reading, ended, Allowed, next, Runs, nextAll, Named, Accepted, Broken, Unfinished}
@@ -60,7 +58,8 @@ meet L (l ∷ a) (m ∷ b) t u p q x y e =
     let z = sym (append-assoc (lineText l) (linesText a) t) ∙ (e ∙ append-assoc (lineText m) (linesText b) u) in
     let o = line-once l m _ _ (spelled-line L l (p .0)) (spelled-line L m (q .0)) z in
     let k : m ≡ l = sym (o .0) in
-    let r = meet (next L l) a b t u (p .1) (subst (λ m. Runs (next L m) b) k (q .1)) x (subst (λ m. Stuck (nextAll (next L m) b) u) k y) (o .1) in
+    let r = meet (next L l) a b t u (p .1) (subst (λ m. Runs (next L m) b) k (q .1)) x
+    (subst (λ m. Stuck (nextAll (next L m) b) u) k y) (o .1) in
     (cc (o .0, r .0), r .1)
 
 -- What the loader makes of lines.

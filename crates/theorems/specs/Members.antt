@@ -2,7 +2,7 @@
 -- Assumes nothing.
 use Prim.Native.Nat.{ℕ, suc, _+_, _<_, _≤_}
 use native.Mathlib.Omega.{arith}
-use mathlib.Core.Path.{_≡_, refl, sym, _∙_}
+use mathlib.Core.Path.{_≡_, refl, sym, ap, _∙_}
 use mathlib.Core.Bool.{Bool, true, false, true≢false}
 use mathlib.Core.List.{List, [], _∷_, _++_}
 use mathlib.Core.Logic.{_⊎_, inl, inr, ⊎-elim}
@@ -15,6 +15,14 @@ use Rattle.theorems.specs.Keep.{smaller-yes, smaller-lt, greater-yes, gr
 
 module _ {A : Type 0} where
   -- what all members satisfy
+  pub all-map : {P Q : A → Type 0} → ((x : A) → P x → Q x) → (xs : List A) → All P xs → All Q xs
+  all-map s [] h = tt
+  all-map s (x ∷ xs) h = (s x (h .0), all-map s xs (h .1))
+
+  pub all-both : (P Q : A → Type 0) (xs : List A) → All P xs → All Q xs → All (λ x. P x × Q x) xs
+  all-both P Q [] h k = tt
+  all-both P Q (x ∷ xs) h k = ((h .0, k .0), all-both P Q xs (h .1) (k .1))
+
   pub all-append : (P : A → Type 0) (xs ys : List A) → All P xs → All P ys → All P (xs ++ ys)
   all-append P [] ys h k = k
   all-append P (x ∷ xs) ys h k = (h .0, all-append P xs ys (h .1) k)
@@ -31,6 +39,10 @@ module _ {A : Type 0} where
   pub all-keep : (P : A → Type 0) (p : A → Bool) (xs : List A) → All P xs → All P (keep p xs)
   all-keep P p xs h = all-kept P P p (λ x u e. u) xs h
 
+  -- each member that is kept has passed the test
+  pub all-keep-pass : (P : A → Type 0) (p : A → Bool) (xs : List A) → All P xs → All (λ x. P x × (p x ≡ true)) (keep p xs)
+  all-keep-pass P p xs h = all-kept P (λ x. P x × (p x ≡ true)) p (λ x u e. (u, e)) xs h
+
   all-unit : (xs : List A) → All (λ x. Unit {0}) xs
   all-unit [] = tt
   all-unit (x ∷ xs) = (tt, all-unit xs)
@@ -42,6 +54,15 @@ module _ {A : Type 0} where
   unfolding put
   all-put P number a xs p h =
       all-append P (keep (smaller number a) xs) _ (all-keep P (smaller number a) xs h) (p, all-keep P (greater number a) xs h)
+
+  -- if all pass, all are kept; if none passes, none is
+  pub keep-all : (p : A → Bool) (xs : List A) → All (λ x. p x ≡ true) xs → keep p xs ≡ xs
+  keep-all p [] h = keep-nil p
+  keep-all p (x ∷ xs) h = keep-yes p x xs (h .0) ∙ ap (x ∷_) (keep-all p xs (h .1))
+
+  pub keep-empty : (p : A → Bool) (xs : List A) → All (λ x. p x ≡ false) xs → keep p xs ≡ []
+  keep-empty p [] h = keep-nil p
+  keep-empty p (x ∷ xs) h = keep-no p x xs (h .0) ∙ keep-empty p xs (h .1)
 
   -- how many there are
   pub keep-length : (p : A → Bool) (xs : List A) → length (keep p xs) ≤ length xs

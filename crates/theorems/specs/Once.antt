@@ -6,8 +6,8 @@ use native.Mathlib.Omega.{arith}
 use mathlib.Core.Path.{_≡_, refl}
 use mathlib.Core.Bool.{Bool, true, false, cond}
 use mathlib.Core.List.{List, [], _∷_, _++_}
-use lib.Dec.{ltb, eqb}
-use Rattle.meaning.specs.Places.{Plain, Turn, before, equal, beyond, order, Document}
+use lib.Dec.{eqb}
+use Rattle.meaning.specs.Places.{Plain, Document}
 use Rattle.meaning.specs.Places.{Place, place, bare, Children, childless, child, Elements, empty, element}
 use Rattle.meaning.specs.Ways.{Assigned, plain, emptyMap, emptyList, Prev, head, after}
 use Rattle.meaning.specs.Ways.{Way, assign, delete, insert, intoMap, intoList, Operation, deletes, makes}
@@ -16,6 +16,12 @@ use Rattle.meaning.specs.Apply.{mark, dropValues, addValue, onMap, onList, give
 use Rattle.meaning.specs.Apply.{passing, run, change}
 use Rattle.meaning.specs.Sheet.{Spot, inMap, inList, Row, rowOf, rows, rowsChildren, rowsElements, rowsOf}
 use Rattle.meaning.specs.Load.{isElement, times}
+use Rattle.theorems.specs.Decide.{Tri, less, same, more, tri, Same, is, isnt, alike}
+use Rattle.theorems.specs.Keys.{TriK, lessK, sameK, moreK, triK, order-self}
+use Rattle.theorems.specs.Keys.{make, make-yes, make-no, key-childless, key-less, key-same, key-more}
+use Rattle.theorems.specs.Elements.{element-empty, element-is, element-isnt, stepOn-empty, stepOn-skip, stepOn-stop}
+use Rattle.theorems.specs.Elements.{stepFrom-empty, stepFrom-is, stepFrom-isnt, insert-head, insert-after}
+use Rattle.theorems.specs.Rows.{row-spot}
 
 abbrev pub one : ℕ → ℕ → ℕ
 one e i = cond (eqb e i) 1 0
@@ -38,9 +44,6 @@ pub times-append : (e : ℕ) (xs ys : List Row) → times e (xs ++ ys) ≡ times
 unfolding times
 times-append e [] ys = omega arith
 times-append e (x ∷ xs) ys = omega (arith, times-append e xs ys)
-
-row-spot : (n : ℕ) (s : Spot) (c : Place) → rowOf n s c .spot ≡ s
-row-spot n s (place m l ms vs ks es) = refl
 
 times-row : (e n : ℕ) (s : Spot) (c : Place) (rs : List Row) → times e (rowOf n s c ∷ rs) ≡ isElement e s + times e rs
 unfolding times
@@ -131,65 +134,55 @@ tally-give e i d emptyList c =
 
 -- What is done under a branch.
 
+tally-make : (e n : ℕ) (b : Bool) (k : List ℕ) (f : Place → Place) (ks : Children) → tally e (f bare) ≤ tally e bare + n
+    → tallyChildren e (make b k f ks) ≤ tallyChildren e ks + n
+tally-make e n true k f ks h = rw (make-yes k f ks) (omega arith)
+tally-make e n false k f ks h = rw (make-no k f ks) (omega arith)
+
 tally-atKey : (e n : ℕ) (b : Bool) (k : List ℕ) (f : Place → Place) → ((c : Place) → tally e (f c) ≤ tally e c + n)
     → (ks : Children) → tallyChildren e (atKey b k f ks) ≤ tallyChildren e ks + n
-unfolding atKey
-tally-atKey e n true k f h childless = omega (arith, h bare)
-tally-atKey e n false k f h childless = omega arith
-tally-atKey e n b k f h (child j c ks) = go (order k j) b (tally-atKey e n b k f h ks)
+tally-atKey e n b k f h childless = rw (key-childless b k f) (tally-make e n b k f childless (h bare))
+tally-atKey e n b k f h (child j c ks) = go (triK k j) (tally-atKey e n b k f h ks)
   where
-    go : (t : Turn) (b : Bool) → tallyChildren e (atKey b k f ks) ≤ tallyChildren e ks + n
-        → tallyChildren e (elim t [
-          | before ↦ cond b (child k (f bare) (child j c ks)) (child j c ks)
-          | equal ↦ child j (f c) ks
-          | beyond ↦ child j c (atKey b k f ks)
-        ])
-        ≤ tallyChildren e (child j c ks) + n
-    go before true r = omega (arith, h bare)
-    go before false r = omega arith
-    go equal b r = omega (arith, h c)
-    go beyond b r = omega arith
+    go : TriK k j → tallyChildren e (atKey b k f ks) ≤ tallyChildren e ks + n
+        → tallyChildren e (atKey b k f (child j c ks)) ≤ tallyChildren e (child j c ks) + n
+    go (lessK p q) r = rw (key-less b k f j c ks p) (tally-make e n b k f (child j c ks) (h bare))
+    go (sameK q) r = rw (key-same b k f j c ks (rw q (order-self j))) (omega (arith, h c))
+    go (moreK p q) r = rw (key-more b k f j c ks p) (omega arith)
 
 tally-atElement : (e n k : ℕ) (f : Place → Place) → ((c : Place) → tally e (f c) ≤ tally e c + n) → (es : Elements)
     → tallyElements e (atElement k f es) ≤ tallyElements e es + n
-unfolding atElement
-tally-atElement e n k f h empty = omega arith
-tally-atElement e n k f h (element j c es) = go (eqb k j) (tally-atElement e n k f h es)
+tally-atElement e n k f h empty = rw (element-empty k f) (omega arith)
+tally-atElement e n k f h (element j c es) = go (alike k j) (tally-atElement e n k f h es)
   where
-    go : (t : Bool) → tallyElements e (atElement k f es) ≤ tallyElements e es + n
-        → tallyElements e (elim t [ true ↦ element j (f c) es | false ↦ element j c (atElement k f es) ])
-        ≤ tallyElements e (element j c es) + n
-    go true r = omega (arith, h c)
-    go false r = omega arith
+    go : Same k j → tallyElements e (atElement k f es) ≤ tallyElements e es + n
+        → tallyElements e (atElement k f (element j c es)) ≤ tallyElements e (element j c es) + n
+    go (is q) r = rw (element-is k f j c es q) (omega (arith, h c))
+    go (isnt q) r = rw (element-isnt k f j c es q) (omega arith)
 
-tally-stepOn : (e i : ℕ) (c : Place) → tally e c ≡ 0 → (es : Elements) → tallyElements e (stepOn i c es) ≤ tallyElements e es + one e i
-unfolding stepOn
-tally-stepOn e i c h empty = omega arith
-tally-stepOn e i c h (element j x es) = go (ltb i j) (tally-stepOn e i c h es)
-  where
-    go : (t : Bool) → tallyElements e (stepOn i c es) ≤ tallyElements e es + one e i
-        → tallyElements e (elim t [ true ↦ element j x (stepOn i c es) | false ↦ element i c (element j x es) ])
-        ≤ tallyElements e (element j x es) + one e i
-    go true r = omega arith
-    go false r = omega arith
+module _ (e i : ℕ) (c : Place) (h : tally e c ≡ 0) where
+  tally-stepOn : (es : Elements) → tallyElements e (stepOn i c es) ≤ tallyElements e es + one e i
+  tally-stepOn empty = rw (stepOn-empty i c) (omega arith)
+  tally-stepOn (element j x es) = go (tri i j) (tally-stepOn es)
+    where
+      go : Tri i j → tallyElements e (stepOn i c es) ≤ tallyElements e es + one e i
+          → tallyElements e (stepOn i c (element j x es)) ≤ tallyElements e (element j x es) + one e i
+      go (less q) r = rw (stepOn-skip i c j x es q) (omega arith)
+      go (same q) r = rw (stepOn-stop i c j x es (omega arith)) (omega arith)
+      go (more q) r = rw (stepOn-stop i c j x es (omega arith)) (omega arith)
 
-tally-stepFrom : (e g i : ℕ) (c : Place) → tally e c ≡ 0 → (es : Elements)
-    → tallyElements e (stepFrom g i c es) ≤ tallyElements e es + one e i
-unfolding stepFrom
-tally-stepFrom e g i c h empty = omega arith
-tally-stepFrom e g i c h (element j x es) = go (eqb g j) (tally-stepFrom e g i c h es)
-  where
-    go : (t : Bool) → tallyElements e (stepFrom g i c es) ≤ tallyElements e es + one e i
-        → tallyElements e (elim t [ true ↦ element j x (stepOn i c es) | false ↦ element j x (stepFrom g i c es) ])
-        ≤ tallyElements e (element j x es) + one e i
-    go true r = omega (arith, tally-stepOn e i c h es)
-    go false r = omega arith
+  tally-stepFrom : (g : ℕ) (es : Elements) → tallyElements e (stepFrom g i c es) ≤ tallyElements e es + one e i
+  tally-stepFrom g empty = rw (stepFrom-empty g i c) (omega arith)
+  tally-stepFrom g (element j x es) = go (alike g j) (tally-stepFrom g es)
+    where
+      go : Same g j → tallyElements e (stepFrom g i c es) ≤ tallyElements e es + one e i
+          → tallyElements e (stepFrom g i c (element j x es)) ≤ tallyElements e (element j x es) + one e i
+      go (is q) r = rw (stepFrom-is g i c j x es q) (omega (arith, tally-stepOn es))
+      go (isnt q) r = rw (stepFrom-isnt g i c j x es q) (omega arith)
 
-tally-insert : (e : ℕ) (p : Prev) (i : ℕ) (c : Place) → tally e c ≡ 0 → (es : Elements)
-    → tallyElements e (insertAfter p i c es) ≤ tallyElements e es + one e i
-unfolding insertAfter
-tally-insert e head i c h es = tally-stepOn e i c h es
-tally-insert e (after g) i c h es = tally-stepFrom e g i c h es
+  tally-insert : (p : Prev) (es : Elements) → tallyElements e (insertAfter p i c es) ≤ tallyElements e es + one e i
+  tally-insert head es = rw (insert-head i c es) (tally-stepOn es)
+  tally-insert (after g) es = rw (insert-after g i c es) (tally-stepFrom g es)
 
 tally-run : (e i : ℕ) (d : List ℕ) (w : Way) (c : Place) → tally e (run i d w c) ≤ tally e c + one e i
 unfolding run
@@ -197,7 +190,7 @@ tally-run e i d (assign a) c = omega (arith, tally-give e i d a c)
 tally-run e i d delete c = omega (arith, tally-clear e d c)
 tally-run e i d (insert p a) c =
     let new : tally e (give i d a bare) ≡ 0 = omega (arith, tally-give e i d a bare) in
-    let list = tally-list e (one e i) (insertAfter p i (give i d a bare)) (λ es. tally-insert e p i (give i d a bare) new es) (mark i c) in
+    let list = tally-list e (one e i) (insertAfter p i (give i d a bare)) (tally-insert e i (give i d a bare) new p) (mark i c) in
     omega (arith, tally-mark e i c, list)
 tally-run e i d (intoMap k w) c =
     let f = run i d w in

@@ -1,6 +1,6 @@
 -- What lines that ran to the end leave: rows that fit, within the limits, with each element id once; and the lines are those of the rows.
 -- Assumes nothing.
-use Prim.Native.Nat.{ℕ, suc, _+_, _≤_, _<_}
+use Prim.Native.Nat.{ℕ, _+_, _≤_, _<_}
 use native.Mathlib.Omega.{arith}
 use mathlib.Core.Path.{_≡_, refl, sym, ap, _∙_, subst}
 use mathlib.Core.Bool.{Bool, true, false, cond}
@@ -10,16 +10,16 @@ use lib.Dec.{eqb}
 use lib.ListN.{length, length-append}
 use borrow.Author.Tests.{eqb-true}
 use Rattle.meaning.specs.Places.{Value}
-use Rattle.meaning.specs.Members.{All, Has, Ascending, own, idOfValue}
+use Rattle.meaning.specs.Members.{Has, Ascending, own, idOfValue}
 use Rattle.meaning.specs.Valid.{ValidPlain, ValidCounters}
 use Rattle.meaning.specs.Sheet.{Spot, inMap, inList, Row, rowLines, rowsLines}
 use Rattle.meaning.specs.Sheet.{Line, sheetLine, seenLine, placeLine, markLine, valueLine, endLine}
-use Rattle.meaning.specs.Load.{Loading, begin, headed, reading, ended, Parent, root, under, parent, isElement, times, marksIn, valuesIn}
-use Rattle.meaning.specs.Load.{Seen, Named, Among, PlaceRule, MarkRule, ValueRule, addMark, addValue, Allowed, next, Runs, nextAll}
+use Rattle.meaning.specs.Load.{begin, headed, reading, ended, Parent, root, under, parent, isElement, times, marksIn, valuesIn}
+use Rattle.meaning.specs.Load.{Seen, Named, Among, PlaceRule, MarkRule, ValueRule, addMark, addValue, Runs, nextAll}
 use Rattle.meaning.specs.Sound.{Own}
-use Rattle.theorems.specs.Members.{all-append, has-left, has-right, has-append, asc-append}
+use Rattle.theorems.specs.Members.{all-append, has-left, has-append, asc-append}
 use Rattle.theorems.specs.LoadVerdict.{ended-eq}
-use Rattle.theorems.specs.Fit.{Holder, KeyOf, RowRule, Fit}
+use Rattle.theorems.specs.Fit.{Holder, KeyOf, Fit}
 use Rattle.theorems.specs.Running.{MarksSeen}
 
 pub record Sane (s : List ℕ) (rs : List Row) : Type 0 where
@@ -106,67 +106,54 @@ holds-mark : (s : List ℕ) (P : Parent) (i : ℕ) → Seen s i → Among P i �
 holds-mark s root i h a = h
 holds-mark s (under r) i h a = a
 
-sane-mark : (s : List ℕ) (r : Row) (rs : List Row) (i : ℕ) → MarkRule s r rs i → Sane s (r ∷ rs) → Sane s (addMark i (r ∷ rs))
+-- the newest row with other marks and values
+sane-with : (s : List ℕ) (r : Row) (rs : List Row) (ms : List ℕ) (vs : List Value) → Own (Holder s (parent (r .depth) rs)) ms vs
+    → length ms + marksIn rs ≤ 1024 → length vs + valuesIn rs ≤ 256 → ((j : ℕ) → Has own j ms → Seen s j) → Sane s (r ∷ rs)
+    → Sane s (record { depth = r .depth; spot = r .spot; map = r .map; list = r .list; marks = ms; values = vs } ∷ rs)
 unfolding times marksIn valuesIn
-sane-mark s r rs i u h =
+sane-with s r rs ms vs o m v n h =
     let f = h .fit .0 in
     record {
-      fit = (
-        record {
-          low = f .low;
-          high = f .high;
-          step = f .step;
-          branch = f .branch;
-          order = f .order;
-          key = f .key;
-          owns = record {
-            marks = asc-last own (r .marks) i (f .owns .marks) (u .ascends);
-            values = f .owns .values;
-            among = λ j v. ⊎-elim (λ w. f .owns .among j w) (λ (q : j ≡ i). rw q (holds-mark s (parent (r .depth) rs) i (u .seen) (u .among))) (has-last own (r .marks) i j v);
-            marked = λ j v. has-left own j (r .marks) (i ∷ []) (f .owns .marked j v);
-            valid = f .owns .valid;
-          };
-        },
-        h .fit .1,
-      );
+      fit = (record { low = f .low; high = f .high; step = f .step; branch = f .branch; order = f .order; key = f .key; owns = o }, h .fit .1);
       places = h .places;
-      marks = omega (arith, u .limit, length-append (r .marks) (i ∷ []));
-      values = h .values;
+      marks = m;
+      values = v;
       once = h .once;
       known = h .known;
-      seen = ((λ j v. ⊎-elim (λ w. h .seen .0 j w) (λ (q : j ≡ i). rw q (u .seen)) (has-last own (r .marks) i j v)), h .seen .1);
+      seen = (n, h .seen .1);
     }
 
+sane-mark : (s : List ℕ) (r : Row) (rs : List Row) (i : ℕ) → MarkRule s r rs i → Sane s (r ∷ rs) → Sane s (addMark i (r ∷ rs))
+unfolding marksIn valuesIn
+sane-mark s r rs i u h =
+    let o = h .fit .0 .owns in
+    let P = parent (r .depth) rs in
+    sane-with s r rs (r .marks ++ (i ∷ [])) (r .values)
+    (record {
+      marks = asc-last own (r .marks) i (o .marks) (u .ascends);
+      values = o .values;
+      among = λ j v.
+          ⊎-elim (λ w. o .among j w) (λ (q : j ≡ i). rw q (holds-mark s P i (u .seen) (u .among))) (has-last own (r .marks) i j v);
+      marked = λ j v. has-left own j (r .marks) (i ∷ []) (o .marked j v);
+      valid = o .valid;
+    })
+    (omega (arith, u .limit, length-append (r .marks) (i ∷ []))) (h .values)
+    (λ j v. ⊎-elim (λ w. h .seen .0 j w) (λ (q : j ≡ i). rw q (u .seen)) (has-last own (r .marks) i j v)) h
+
 sane-value : (s : List ℕ) (r : Row) (rs : List Row) (v : Value) → ValueRule r rs v → Sane s (r ∷ rs) → Sane s (addValue v (r ∷ rs))
-unfolding times marksIn valuesIn
+unfolding marksIn valuesIn
 sane-value s r rs v u h =
-    let f = h .fit .0 in
-    record {
-      fit = (
-        record {
-          low = f .low;
-          high = f .high;
-          step = f .step;
-          branch = f .branch;
-          order = f .order;
-          key = f .key;
-          owns = record {
-            marks = f .owns .marks;
-            values = asc-last idOfValue (r .values) v (f .owns .values) (u .ascends);
-            among = f .owns .among;
-            marked = λ j w. ⊎-elim (λ x. f .owns .marked j x) (λ (q : j ≡ v .id). rw q (u .marked)) (has-last idOfValue (r .values) v j w);
-            valid = all-append (λ v. ValidPlain (v .val)) (r .values) (v ∷ []) (f .owns .valid) (u .valid, tt);
-          };
-        },
-        h .fit .1,
-      );
-      places = h .places;
-      marks = h .marks;
-      values = omega (arith, u .limit, length-append (r .values) (v ∷ []));
-      once = h .once;
-      known = h .known;
-      seen = h .seen;
-    }
+    let o = h .fit .0 .owns in
+    sane-with s r rs (r .marks) (r .values ++ (v ∷ []))
+    (record {
+      marks = o .marks;
+      values = asc-last idOfValue (r .values) v (o .values) (u .ascends);
+      among = o .among;
+      marked = λ j w.
+          ⊎-elim (λ x. o .marked j x) (λ (q : j ≡ v .id). rw q (u .marked)) (has-last idOfValue (r .values) v j w);
+      valid = all-append (λ v. ValidPlain (v .val)) (r .values) (v ∷ []) (o .valid) (u .valid, tt);
+    })
+    (h .marks) (omega (arith, u .limit, length-append (r .values) (v ∷ []))) (h .seen .0) h
 
 -- The lines of the rows.
 
@@ -181,7 +168,8 @@ back rs = rowsLines (reverse rs)
 
 back-cons : (r : Row) (rs : List Row) → back (r ∷ rs) ≡ back rs ++ rowLines r
 unfolding back rowsLines
-back-cons r rs = ap rowsLines (reverse-cons r rs) ∙ (rows-append (reverse rs) (r ∷ []) ∙ ap (rowsLines (reverse rs) ++_) (append-nil (rowLines r)))
+back-cons r rs =
+    ap rowsLines (reverse-cons r rs) ∙ (rows-append (reverse rs) (r ∷ []) ∙ ap (rowsLines (reverse rs) ++_) (append-nil (rowLines r)))
 
 map-last : {A B : Type 0} (f : A → B) (xs : List A) (x : A) → map f (xs ++ (x ∷ [])) ≡ map f xs ++ (f x ∷ [])
 map-last f [] x = refl

@@ -3,10 +3,9 @@
 use Prim.Native.Nat.{ℕ, suc, _≤_, _<_}
 use native.Mathlib.Omega.{arith}
 use mathlib.Core.Path.{_≡_, refl, sym, ap, _∙_, subst}
-use mathlib.Core.Bool.{Bool}
 use mathlib.Core.List.{List, [], _∷_, _++_, append-assoc, append-nil, nil≢cons, head-eq-of-cons-eq, tail-eq-of-cons-eq}
 use mathlib.Core.Logic.{_⊎_, inl, inr, ⊎-elim}
-use Rattle.meaning.specs.Places.{Value, Place, place, Children, childless, child, Elements, empty, element, Document}
+use Rattle.meaning.specs.Places.{Place, place, Children, childless, child, Elements, empty, element, Document}
 use Rattle.meaning.specs.Sheet.{Spot, inMap, inList, Row, rowOf, rows, rowsChildren, rowsElements, rowsOf}
 
 pub row-depth : (n : ℕ) (s : Spot) (c : Place) → rowOf n s c .depth ≡ n
@@ -84,9 +83,11 @@ no-element n (r ∷ R) S i c h e = absurd (omega (arith, ap (λ r. r .depth) (he
 mutual
   unfolding rows
 
-  same-place : (c x : Place) (n : ℕ) (R S : List Row) → Lower n R → Lower n S → Alike c x → rows n c ++ R ≡ rows n x ++ S → (c ≡ x) × (R ≡ S)
+  same-place : (c x : Place) (n : ℕ) (R S : List Row) → Lower n R → Lower n S → Alike c x → rows n c ++ R ≡ rows n x ++ S
+      → (c ≡ x) × (R ≡ S)
   same-place (place m l ms vs ks es) (place m′ l′ ms′ vs′ ks′ es′) n R S p q a e =
-      let z = sym (append-assoc (rowsChildren n ks) (rowsElements n es) R) ∙ (e ∙ append-assoc (rowsChildren n ks′) (rowsElements n es′) S) in
+      let z = sym (append-assoc (rowsChildren n ks) (rowsElements n es) R)
+      ∙ (e ∙ append-assoc (rowsChildren n ks′) (rowsElements n es′) S) in
       let t = same-children ks ks′ n _ _ (past-elements n es R p) (past-elements n es′ S q) z in
       let u = same-elements es es′ n R S p q (t .1) in
       (cc (a .0, a .1, a .2, a .3, t .0, u .0), u .1)

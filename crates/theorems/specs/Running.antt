@@ -1,11 +1,11 @@
 -- Rows that fit, within the limits, with each element id once, are lines that run.
 -- Assumes nothing.
-use Prim.Native.Nat.{ℕ, suc, _+_, _≤_, _<_}
+use Prim.Native.Nat.{ℕ, _+_, _≤_, _<_}
 use native.Mathlib.Omega.{arith}
 use mathlib.Core.Path.{_≡_, refl, sym, ap, _∙_, subst}
 use mathlib.Core.Bool.{Bool, true, false}
 use mathlib.Core.List.{List, [], _∷_, _++_, map, append-assoc, append-nil, reverseAux}
-use mathlib.Core.Logic.{_⊎_, inl, inr, ⊎-elim}
+use mathlib.Core.Logic.{inl, inr}
 use lib.Dec.{ltb}
 use lib.ListN.{length, length-append}
 use borrow.Author.Tests.{eq-eqb}
@@ -13,7 +13,7 @@ use Rattle.meaning.specs.Places.{Value}
 use Rattle.meaning.specs.Members.{All, Has, Ascending, own, idOfValue}
 use Rattle.meaning.specs.Valid.{ValidPlain}
 use Rattle.meaning.specs.Sheet.{Spot, inMap, inList, Row, rowLines, rowsLines}
-use Rattle.meaning.specs.Sheet.{Line, placeLine, markLine, valueLine}
+use Rattle.meaning.specs.Sheet.{Line, markLine, valueLine}
 use Rattle.meaning.specs.Load.{reading, Parent, root, under, parent, isElement, times, marksIn, valuesIn, Seen, Named, Among, Runs}
 use Rattle.theorems.specs.Members.{has-right}
 use Rattle.theorems.specs.LoadVerdict.{withMarks, withValues}
@@ -67,7 +67,8 @@ run-values : (s : List ℕ) (b : Row) (rs : List Row) (vs all : List Value) (ls 
     → length all + valuesIn rs ≤ 256
     → Runs (reading s (withValues b all ∷ rs)) ls → Runs (reading s (b ∷ rs)) (map valueLine vs ++ ls)
 unfolding valuesIn
-run-values s b rs [] all ls e a y h l k = subst (λ vs. Runs (reading s (withValues b vs ∷ rs)) ls) (sym (sym (append-nil (b .values)) ∙ e)) k
+run-values s b rs [] all ls e a y h l k =
+    subst (λ vs. Runs (reading s (withValues b vs ∷ rs)) ls) (sym (sym (append-nil (b .values)) ∙ e)) k
 run-values s b rs (v ∷ vs) all ls e a y h l k = (
   record {
     limit = omega (arith, length-append (b .values) (v ∷ vs), ap length e);
@@ -75,7 +76,8 @@ run-values s b rs (v ∷ vs) all ls e a y h l k = (
     ascends = asc-before idOfValue (b .values) v vs (subst (Ascending idOfValue) (sym e) a);
     marked = h (v .id) (inl refl);
   },
-  run-values s (withValues b (b .values ++ (v ∷ []))) rs vs all ls (append-assoc (b .values) (v ∷ []) vs ∙ e) a (y .1) (λ j u. h j (inr u)) l k,
+  run-values s (withValues b (b .values ++ (v ∷ []))) rs vs all ls (append-assoc (b .values) (v ∷ []) vs ∙ e) a (y .1)
+      (λ j u. h j (inr u)) l k,
 )
 
 -- All the rows.
@@ -132,7 +134,8 @@ run-row s rs x xs ls r m k =
           (run-marks s b rs (x .marks) (x .marks) (map valueLine (x .values) ++ ls) refl refl (o .marks)
           (λ j u. (holder-seen s (x .depth) rs j (m .seen) (o .among j u), holder-among s (parent (x .depth) rs) j (o .among j u)))
           (omega (arith, m .marks))
-          (run-values s (withMarks b (x .marks)) rs (x .values) (x .values) ls refl (o .values) (o .valid) (o .marked) (omega (arith, m .values)) k)),
+          (run-values s (withMarks b (x .marks)) rs (x .values) (x .values) ls refl (o .values) (o .valid) (o .marked)
+          (omega (arith, m .values)) k)),
     )
 
 pub run-rows : (s : List ℕ) (xs rs : List Row) (ls : List Line) → FitOn s rs xs → Room s rs xs → Runs (reading s (reverseAux xs rs)) ls

@@ -1,11 +1,11 @@
 -- The rows of a sound document fit, each behind those before it.
 -- Assumes nothing.
-use Prim.Native.Nat.{ℕ, suc, _≤_, _<_}
+use Prim.Native.Nat.{ℕ, suc, _≤_}
 use native.Mathlib.Omega.{arith}
-use mathlib.Core.Path.{_≡_, refl, sym, ap, _∙_, subst}
+use mathlib.Core.Path.{_≡_, refl, sym, _∙_, subst}
 use mathlib.Core.Bool.{Bool, true}
-use mathlib.Core.List.{List, [], _∷_, _++_, reverseAux}
-use Rattle.meaning.specs.Places.{Value, before, order, Place, place, Children, childless, child, Elements, empty, element}
+use mathlib.Core.List.{List, [], _∷_, reverseAux}
+use Rattle.meaning.specs.Places.{Value, Place, place, Children, childless, child, Elements, empty, element}
 use Rattle.meaning.specs.Members.{Has, own}
 use Rattle.meaning.specs.Sheet.{Spot, inMap, inList, Row, rowOf, rows, rowsChildren, rowsElements}
 use Rattle.meaning.specs.Load.{Parent, root, under, parent, Elder, eldest, behind, elder, lastDepth, Seen, HasBranch, Ordered, Follows}
@@ -78,7 +78,8 @@ First e (child k c ks) = Follows e (inMap k)
 first-next : (n : ℕ) (k : List ℕ) (c : Place) (rs : List Row) (ks : Children) → Below k ks → First (elder n (onTop n (inMap k) c rs)) ks
 first-next n k c rs childless b = tt
 first-next n k c rs (child j x ks) b =
-    subst (λ e. Follows e (inMap j)) (sym (block-elder n (inMap k) c rs)) (subst (λ p. Ordered p (inMap j)) (sym (row-spot n (inMap k) c)) (b .0))
+    subst (λ e. Follows e (inMap j)) (sym (block-elder n (inMap k) c rs))
+    (subst (λ p. Ordered p (inMap j)) (sym (row-spot n (inMap k) c)) (b .0))
 
 again-mapped : (ks : Children) (m : Bool) → m ≡ true → Mapped ks m
 again-mapped childless m e = tt
@@ -128,7 +129,11 @@ mutual
       (fit-elements es s (suc n) (under r) (λ j. Has own j ms) us
       (record {
         low = h .low;
-        step = omega (arith, last-over n (rowsChildren (suc n) ks) (r ∷ rs) (deep-less n (rowsChildren (suc n) ks) (deep-children ks (suc n))) (omega arith));
+        step = omega (
+          arith,
+          last-over n (rowsChildren (suc n) ks) (r ∷ rs)
+              (deep-less n (rowsChildren (suc n) ks) (deep-children ks (suc n))) (omega arith),
+        );
         hangs = parent-over (suc n) (rowsChildren (suc n) ks) (r ∷ rs) (deep-children ks (suc n)) ∙ h .hangs;
         holds = h .holds;
       })
@@ -140,7 +145,8 @@ mutual
   fit-children (child k c ks) s n P Q rs h b f o = (
     rule s n P Q rs (inMap k) c h (o .0 .1) (b k) f (o .0 .0) (o .2),
     fit-append s (rows (suc n) c) (rowsChildren n ks) (rowOf n (inMap k) c ∷ rs) (fit-place c s n (inMap k) rs Q (o .2))
-        (fit-children ks s n P Q (onTop n (inMap k) c rs) (behind-block s n P Q rs (inMap k) c h) (map-on ks P b) (first-next n k c rs ks (o .1)) (o .3)),
+        (fit-children ks s n P Q (onTop n (inMap k) c rs) (behind-block s n P Q rs (inMap k) c h) (map-on ks P b)
+        (first-next n k c rs ks (o .1)) (o .3)),
   )
 
   fit-elements : (es : Elements) (s : List ℕ) (n : ℕ) (P : Parent) (Q : ℕ → Type 0) (rs : List Row) → Here s n P Q rs → ListOf es P

@@ -156,7 +156,8 @@ flags-length true false = refl
 flags-length false true = refl
 flags-length false false = refl
 
-spot-short : (s : List ℕ) (rs : List Row) (p : Spot) (m l : Bool) → ValidCounters s → Named s rs p → length (spotText p (flagsText m l)) ≤ 34
+spot-short : (s : List ℕ) (rs : List Row) (p : Spot) (m l : Bool) → ValidCounters s → Named s rs p
+    → length (spotText p (flagsText m l)) ≤ 34
 unfolding spotText
 spot-short s rs (inMap k) m l c h =
     omega (arith, length-append (flagsText m l) (hex k), flags-length m l, hex-length k, h .short)

@@ -15,8 +15,8 @@ use Rattle.meaning.specs.Sheet.{rowsOf, rowsChildren}
 use Rattle.meaning.specs.Load.{Seen, times}
 use Rattle.meaning.specs.Sound.{Sound}
 use Rattle.theorems.specs.Decide.{Same, is, isnt, alike}
-use Rattle.theorems.specs.Kept.{wider-children}
-use Rattle.theorems.specs.Reached.{sound-change}
+use Rattle.theorems.specs.SoundAtoms.{wider-children}
+use Rattle.theorems.specs.SoundRun.{sound-change}
 use Rattle.theorems.specs.Once.{one, times-tally, tally-change}
 use Rattle.theorems.specs.Counters.{each-le, raise-valid, seen-stays, seen-self, unseen}
 

@@ -3,7 +3,7 @@
 use Prim.Native.Nat.{ℕ, zero, suc, _+_, _≤_}
 use native.Mathlib.Omega.{arith}
 use mathlib.Core.Path.{_≡_, refl, sym, ap, _∙_}
-use mathlib.Core.Bool.{Bool, true, false, _||_}
+use mathlib.Core.Bool.{true, false, _||_}
 use mathlib.Core.List.{List, [], _∷_, _++_, append-assoc, append-nil, append-cancel-right}
 use lib.Dec.{eqb}
 use lib.ListN.{length, getD, drop}
@@ -11,8 +11,8 @@ use borrow.Author.Tests.{ne-eqb}
 use Rattle.meaning.specs.Ascii.{ascii, byte}
 use Rattle.meaning.specs.Ids.{counterOf}
 use Rattle.meaning.specs.Ways.{Assigned, Prev, head, after, Way, assign, delete, insert, intoMap, intoList, Operation, steps}
-use Rattle.meaning.specs.Valid.{Bytes, ValidAssigned, ValidWay, ValidEdit, ValidOperation}
-use Rattle.meaning.specs.Text.{decimal, idText, countersText, hex, assignedText}
+use Rattle.meaning.specs.Valid.{Bytes, ValidWay, ValidEdit, ValidOperation}
+use Rattle.meaning.specs.Text.{idText, countersText, hex}
 use Rattle.meaning.specs.Message.{prevText, stepsText, doText, editText, message}
 use Rattle.meaning.specs.Read.{Trail, here, byKey, byElement, trailText, trailSteps, ValidTrail, PlaceWay, ValidPlaceWay}
 use Rattle.meaning.specs.Read.{placeWayText, KeysWay, ofRoot, ofPlace, ValidKeysWay, keysWayText, elementWayText}
@@ -93,10 +93,21 @@ unfolding allText stepText readSteps
 steps-back f [] t l b h = no-step f t h
 steps-back zero (s ∷ ss) t l b h = absurd (omega arith)
 steps-back (suc f) (key k ∷ ss) t l b h =
-    rw (append-assoc (hex k) (allText ss) t, hex-back k (allText ss ++ t) (b .0) (steps-stop ss t h), steps-back f ss t (omega arith) (b .1) h)
+    rw (
+      append-assoc (hex k) (allText ss) t,
+      hex-back k (allText ss ++ t) (b .0) (steps-stop ss t h),
+      steps-back f ss t (omega arith) (b .1) h,
+    )
 steps-back (suc f) (id e ∷ ss) t l b h =
     let a = append-assoc (idText e) (allText ss) t in
-    rw (a, not-caret e (allText ss ++ t), readSteps, a, id-back e (allText ss ++ t) (steps-stop ss t h), steps-back f ss t (omega arith) b h)
+    rw (
+      a,
+      not-caret e (allText ss ++ t),
+      readSteps,
+      a,
+      id-back e (allText ss ++ t) (steps-stop ss t h),
+      steps-back f ss t (omega arith) b h,
+    )
 steps-back (suc f) (caret ∷ ss) t l b h = rw (steps-back f ss t (omega arith) b h)
 
 -- Ways.

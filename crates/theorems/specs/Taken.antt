@@ -184,11 +184,14 @@ module _ (s : List ℕ) (Q : ℕ → Type 0) (m l : Bool) (P : Parent) (out : Li
       }
   here n (inMap k) r ks (element i c es) o u b =
       absurd (no-key n k i c es (reverseAux (rowsChildren n ks) out)
-      (subst (λ us. Follows (elder n us) (inMap k)) (reverseAux-append (rowsChildren n ks) (rowsElements n (element i c es)) out) (u .order)))
+      (subst (λ us. Follows (elder n us) (inMap k))
+      (reverseAux-append (rowsChildren n ks) (rowsElements n (element i c es)) out) (u .order)))
   here n (inList i) r ks es o u b = record {
     children = ks;
     elements = lastElement es i (leaf r);
-    rows = ap (rowsChildren n ks ++_) (last-element-rows n es i (leaf r) (leaf-bare r (suc n))) ∙ sym (append-assoc (rowsChildren n ks) _ _);
+    rows =
+        ap (rowsChildren n ks ++_) (last-element-rows n es i (leaf r) (leaf-bare r (suc n)))
+        ∙ sym (append-assoc (rowsChildren n ks) _ _);
     sound = (
       b .0,
       listed-last es i (leaf r) l (o .lists i (hangs-under n (inList i) r ks es o u)),

@@ -12,7 +12,7 @@ use Rattle.meaning.specs.Ways.{Operation}
 use Rattle.meaning.specs.Apply.{apply}
 use Rattle.meaning.specs.Limits.{fits}
 use Rattle.meaning.specs.Judge.{notAbove, repeated, crossed, astray, downward}
-use Rattle.meaning.specs.Receive.{Terminal, readyIn, waits, Verdict, refused, kept, taken, judgeReady, judgeEarly, judge}
+use Rattle.meaning.specs.Receive.{Terminal, readyIn, dead, waits, Verdict, refused, kept, taken, judgeReady, judgeEarly, judge}
 use Rattle.meaning.specs.Message.{message}
 use Rattle.meaning.specs.Edit.{EditVerdict, spent, judgeEdit}
 use Rattle.meaning.specs.Edit as Edit
@@ -20,6 +20,7 @@ use Rattle.meaning.specs.declared.Receipt.{Receipt}
 use Rattle.meaning.specs.declared.Receipt.the-variants as R
 use Rattle.meaning.specs.declared.Edited.{Edited}
 use Rattle.meaning.specs.declared.Edited.the-variants as E
+use Rattle.theorems.specs.Tests.{alive-now, early-alive}
 
 -- an operation that isn't a repeat has its counter above its terminal's seen entry
 pub new-lt : (s : List ℕ) (o : Operation) → repeated s o ≡ false → entry s (entryOf (o .id)) < counterOf (o .id)
@@ -46,6 +47,13 @@ pub record Keeps (o : Operation) (T : Terminal) : Type 0 where
   pub early : readyIn (T .document) o ≡ false
   pub once : waits (o .id) (T .waiting) ≡ false
   pub few : leb 64 (length (T .waiting)) ≡ false
+
+-- neither is dead
+pub takes-alive : (o : Operation) (T : Terminal) → Takes o T → dead (T .document) o ≡ false
+takes-alive o T t = alive-now (T .document) o (t .admitted .new) (t .admitted .own) (t .leads) (t .smaller)
+
+pub keeps-alive : (o : Operation) (T : Terminal) → Keeps o T → dead (T .document) o ≡ false
+keeps-alive o T k = early-alive (T .document) o (k .admitted .new) (k .admitted .own) (k .early)
 
 -- an answer other than 0 and 5
 abbrev pub Refusal : Receipt → Type 0
