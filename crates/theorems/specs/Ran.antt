@@ -114,7 +114,10 @@ unfolding times marksIn valuesIn
 sane-with s r rs ms vs o m v n h =
     let f = h .fit .0 in
     record {
-      fit = (record { low = f .low; high = f .high; step = f .step; branch = f .branch; order = f .order; key = f .key; owns = o }, h .fit .1);
+      fit = (
+        record { low = f .low; high = f .high; step = f .step; branch = f .branch; order = f .order; key = f .key; owns = o },
+        h .fit .1,
+      );
       places = h .places;
       marks = m;
       values = v;

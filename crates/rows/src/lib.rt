@@ -1,0 +1,1 @@
+// The operation on rows: specs/. There is no code.
