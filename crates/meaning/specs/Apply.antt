@@ -6,7 +6,7 @@ use mathlib.Core.List.{List, [], _∷_}
 use lib.Dec.{ltb, eqb}
 use Rattle.meaning.specs.Ids.{raise, zeros}
 use Rattle.meaning.specs.Sets.{put}
-use Rattle.meaning.specs.Places.{Plain, Value, before, equal, beyond, order, Place, place, bare, Document}
+use Rattle.meaning.specs.Places.{Plain, before, equal, beyond, order, Place, place, bare, Document}
 use Rattle.meaning.specs.Places.{Children, childless, child, Elements, empty, element}
 use Rattle.meaning.specs.Ways.{Assigned, plain, emptyMap, emptyList, Prev, head, after}
 use Rattle.meaning.specs.Ways.{Way, assign, delete, insert, intoMap, intoList, Operation, deletes, makes}

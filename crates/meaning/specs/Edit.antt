@@ -1,7 +1,7 @@
 -- Document 01, "Ids", "Messages" and "What is answered": a local edit. Its trials are 1 (specs/Promises), 11, 8, 9, 10, 13, 0.
 -- Assumes nothing: these are definitions.
-use Prim.Native.Nat.{ℕ, suc, _-_, max}
-use mathlib.Core.Bool.{Bool, true, false, cond, _||_}
+use Prim.Native.Nat.{ℕ, suc, max}
+use mathlib.Core.Bool.{Bool, false, cond, _||_}
 use mathlib.Core.List.{List, [], _∷_}
 use lib.Dec.{eqb, ltb}
 use lib.ListN.{length}

@@ -1,7 +1,7 @@
 -- Document 01, "Twelve examples to prove": one table under one claim. Each row has the messages that an empty terminal receives, what it
 -- answers to each, and what it then holds: the document by its sheet, and the waiting messages.
 -- Assumes nothing.
-use Prim.Native.Nat.{ℕ, _+_}
+use Prim.Native.Nat.{ℕ}
 use Prim.Native.String.{String}
 use mathlib.Core.Path.{_≡_}
 use mathlib.Core.List.{List, [], _∷_, map}

@@ -7,7 +7,7 @@ use lib.Dec.{leb, ltb, eqb}
 use Rattle.meaning.specs.Ids.{counterOf, entryOf, entry, covered, allBelow}
 use Rattle.meaning.specs.Places.{before, equal, beyond, order, Place, Children, childless, child, Elements, empty, element}
 use Rattle.meaning.specs.Places.{bare, childrenOf, elementsOf, Document}
-use Rattle.meaning.specs.Ways.{Prev, head, after, Way, assign, delete, insert, intoMap, intoList, Operation}
+use Rattle.meaning.specs.Ways.{head, after, Way, assign, delete, insert, intoMap, intoList, Operation}
 
 -- 2: counter not above every deps entry
 unfoldable pub notAbove : Operation → Bool

@@ -3,18 +3,16 @@
 -- Assumes nothing: these are definitions.
 use Prim.Native.Nat.{ℕ, _≤_}
 use mathlib.Core.Path.{_≡_}
-use mathlib.Core.Bool.{Bool, true, false, cond, _&&_}
 use mathlib.Core.List.{List, [], _∷_}
-use lib.Dec.{leb}
 use Rattle.meaning.specs.Places.{Document}
-use Rattle.meaning.specs.Ways.{Way, Operation}
+use Rattle.meaning.specs.Ways.{Way}
 use Rattle.meaning.specs.Valid.{ValidEdit, ValidOperation}
 use Rattle.meaning.specs.Message.{message, editText}
 use Rattle.meaning.specs.Receive.{Terminal, newTerminal, Received, refusing, receive}
 use Rattle.meaning.specs.Edit.{EditOutcome, edit}
-use Rattle.meaning.specs.Sheet.{SaveOutcome, save, sheet}
+use Rattle.meaning.specs.Sheet.{save, sheet}
 use Rattle.meaning.specs.Load.{Accepted, Broken}
-use Rattle.meaning.specs.Read.{PlaceWay, ValidPlaceWay, placeWayText, KeysWay, ValidKeysWay, keysWayText, elementWayText}
+use Rattle.meaning.specs.Read.{ValidPlaceWay, placeWayText, ValidKeysWay, keysWayText, elementWayText}
 use Rattle.meaning.specs.Read.{Told, keys, values, nthElement, ReadOutcome, answerRead}
 use Rattle.meaning.specs.Stream.{messages}
 use Rattle.meaning.specs.declared.Receipt.{Receipt}

@@ -1,16 +1,16 @@
 -- The twelve examples hold. What each message says is given as an operation; that the operation is valid, that its text is the message, and
 -- what the terminal answers and holds, is computed.
 -- Assumes nothing.
-use Prim.Native.Nat.{ℕ, zero, suc, _≤_, _<_, _+_}
+use Prim.Native.Nat.{ℕ, zero, suc, _<_}
 use native.Mathlib.Omega.{arith}
-use mathlib.Core.Path.{_≡_, refl, sym, ap, _∙_}
+use mathlib.Core.Path.{_≡_, refl, ap}
 use mathlib.Core.Bool.{Bool, true, false, _&&_, false≢true}
 use mathlib.Core.List.{List, [], _∷_, map, nil≢cons, head-eq-of-cons-eq, tail-eq-of-cons-eq}
 use lib.Dec.{leb, ltb, eqb}
 use lib.IntN.{pos, negsuc}
 use lib.ListN.{length}
 use borrow.Author.Tests.{leb-true, ltb-true, eqb-true}
-use Rattle.meaning.specs.Ascii.{ascii, byte}
+use Rattle.meaning.specs.Ascii.{ascii}
 use Rattle.meaning.specs.Ids.{idOf, counterOf, entry, covered, atMost, allBelow, ready}
 use Rattle.meaning.specs.Sets.{keep, smaller, greater, put}
 use Rattle.meaning.specs.Places.{Plain, null, bool, integer, string, order}
@@ -27,10 +27,10 @@ use Rattle.meaning.specs.Receive.{Terminal, newTerminal, receive, dead, 
 use Rattle.meaning.specs.Receive.{waits, judgeReady, judgeEarly, judge, finish}
 use Rattle.meaning.specs.Text.{digits, widthFrom, width, decimal, integerText, idText, commaText, countersText, hexDigit, hex}
 use Rattle.meaning.specs.Text.{plainText, assignedText}
-use Rattle.meaning.specs.Valid.{ValidCounters, Bytes, ValidKey, ValidPlain, ValidAssigned, ValidPrev, ValidWay, ValidOperation}
+use Rattle.meaning.specs.Valid.{Bytes, ValidKey, ValidPlain, ValidAssigned, ValidWay, ValidOperation}
 use Rattle.meaning.specs.Message.{prevText, stepsText, doText, editText, message}
 use Rattle.meaning.specs.Sheet.{rows, rowsOf, spotText, lineText, linesText, rowLines, rowsLines, sheetLines, sheet}
-use Rattle.meaning.specs.Promises.{says, Receives}
+use Rattle.meaning.specs.Promises.{says}
 use Rattle.meaning.specs.Examples.{Example, table, Answered, Holds, Claim}
 
 -- A test of an operation's validity, and what it shows.

@@ -1,7 +1,7 @@
 -- Document 01, "Applying an operation" and "Messages": operations and their ways. A way ends in what is done there, so that an illegal
 -- one can't be written: `^` and an element id to insert after stand last, with an insert, after `[`; a delete has no value.
 -- Assumes nothing: these are definitions.
-use Prim.Native.Nat.{ℕ, zero, suc}
+use Prim.Native.Nat.{ℕ, suc}
 use mathlib.Core.Bool.{Bool, true, false}
 use mathlib.Core.List.{List}
 use Rattle.meaning.specs.Places.{Plain}

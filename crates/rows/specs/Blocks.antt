@@ -8,7 +8,7 @@ use mathlib.Core.List.{List, [], _∷_, _++_, map}
 use lib.Dec.{ltb, eqb}
 use Rattle.meaning.specs.Sets.{put}
 use Rattle.meaning.specs.Clear.{clearMarks, clearValues}
-use Rattle.meaning.specs.Places.{Plain, Value, before, equal, beyond, order}
+use Rattle.meaning.specs.Places.{Plain, before, equal, beyond, order}
 use Rattle.meaning.specs.Ways.{Assigned, plain, emptyMap, emptyList, Prev, head, after}
 use Rattle.meaning.specs.Ways.{Way, assign, delete, insert, intoMap, intoList, Operation, deletes, makes}
 use Rattle.meaning.specs.Sheet.{Spot, inMap, inList, Row}

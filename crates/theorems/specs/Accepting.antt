@@ -1,7 +1,7 @@
 -- Demand 3, the sheet: a text is accepted exactly if it is the sheet of a sound document within the limits. So loading a saved sheet gives
 -- the document back, no other spelling of it is accepted, and documents are equal exactly when their sheets are.
 -- Assumes nothing.
-use Prim.Native.Nat.{ℕ, suc, _+_, _≤_, _<_}
+use Prim.Native.Nat.{ℕ, suc, _+_, _≤_}
 use native.Mathlib.Omega.{arith}
 use mathlib.Core.Path.{_≡_, refl, sym, ap, ap₂, _∙_, subst}
 use mathlib.Core.Bool.{Bool, true, _&&_}
@@ -12,16 +12,19 @@ use borrow.Author.Tests.{leb-true, le-leb}
 use Rattle.meaning.specs.Places.{Value, Place, place, Children, childless, child, Elements, empty, element, Document}
 use Rattle.meaning.specs.Limits.{Size, plus, nothing, size, sizeChildren, sizeElements, within, fits}
 use Rattle.meaning.specs.Sheet.{Spot, inMap, inList, Row, rowOf, rows, rowsChildren, rowsElements, rowsOf, rowsLines}
-use Rattle.meaning.specs.Sheet.{Line, sheetLine, seenLine, endLine, linesText, sheetLines, sheet}
-use Rattle.meaning.specs.Load.{begin, reading, ended, times, marksIn, valuesIn, Seen, Runs, nextAll, Accepted}
+use Rattle.meaning.specs.Sheet.{sheetLine, seenLine, endLine, linesText, sheetLines, sheet}
+use Rattle.meaning.specs.Load.{begin, reading, times, marksIn, valuesIn, Seen, Runs, Accepted}
 use Rattle.meaning.specs.Sound.{Sound, SoundChildren}
+use Rattle.meaning.specs.Receive.{Terminal}
+use Rattle.meaning.specs.Promises.{Loads}
+use Rattle.meaning.specs.declared.Loaded.{Loaded as Answered}
+use Rattle.theorems.specs.Invariant.{Steady, steady-loads}
 use Rattle.theorems.specs.Decide.{and-left, and-right}
 use Rattle.theorems.specs.Rows.{rows-once}
-use Rattle.theorems.specs.LoadVerdict.{says-document, ended-eq, same-document, accepted-once}
-use Rattle.theorems.specs.Fit.{FitOn}
+use Rattle.theorems.specs.LoadVerdict.{says-document, accepted-once}
 use Rattle.theorems.specs.Saved.{sound-fits}
 use Rattle.theorems.specs.Running.{Room, run-rows}
-use Rattle.theorems.specs.Ran.{Sane, Whole, ran-whole}
+use Rattle.theorems.specs.Ran.{Whole, ran-whole}
 use Rattle.theorems.specs.Taken.{Tree, tree}
 
 -- The size of a document is that of its rows.
@@ -197,3 +200,8 @@ accepted-sheet text D a =
 -- two sound documents within the limits are equal exactly when their sheets are
 pub sheet-once : (D E : Document) → Sound D → fits D ≡ true → Sound E → fits E ≡ true → sheet D ≡ sheet E → D ≡ E
 sheet-once D E s f t g e = accepted-once (sheet D) D E (sheet-accepted D s f) (subst (λ x. Accepted x E) (sym e) (sheet-accepted E t g))
+
+-- whatever a terminal loads, it satisfies what every terminal does
+pub steady-load : (T : Terminal) (bytes : List ℕ) (answer : Answered) (exit : Terminal) → Loads T bytes answer exit → Steady T → Steady exit
+steady-load T bytes answer exit p s =
+    steady-loads T bytes answer exit (λ D a. let l = accepted-sheet bytes D a in (l .sound, l .fits)) p s

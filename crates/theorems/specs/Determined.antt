@@ -9,7 +9,7 @@ use Rattle.meaning.specs.Message.{message}
 use Rattle.meaning.specs.Receive.{Terminal, newTerminal, receive}
 use Rattle.meaning.specs.Edit.{edit}
 use Rattle.meaning.specs.Sheet.{sheet}
-use Rattle.meaning.specs.Read.{PlaceWay, ValidPlaceWay, placeWayText, KeysWay, ValidKeysWay, keysWayText, elementWayText}
+use Rattle.meaning.specs.Read.{ValidPlaceWay, placeWayText, ValidKeysWay, keysWayText, elementWayText}
 use Rattle.meaning.specs.Read.{Told, keys, values, nthElement, answerRead}
 use Rattle.meaning.specs.Stream.{messages}
 use Rattle.meaning.specs.Promises.{Says, says, saysNothing, received, Receives, Lines, ValidLines, linesOf, edited, Edits, Saves, Loads}

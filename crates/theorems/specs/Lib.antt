@@ -37,6 +37,7 @@ pub mod Outcomes
 pub mod Decimal
 pub mod Back
 pub mod Lines
+pub mod Steps
 pub mod Spelling
 -- Sheets and loading.
 pub mod Rows
@@ -45,6 +46,7 @@ pub mod Fit
 pub mod Saved
 pub mod Running
 pub mod Ran
+pub mod AtEnd
 pub mod Taken
 pub mod Accepting
 pub mod Sizes

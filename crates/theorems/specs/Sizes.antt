@@ -1,9 +1,9 @@
 -- Sizes: a message has at most 463 bytes, and one has as many; the sheet of a sound document within the limits has at most 65,536.
 -- Assumes nothing.
-use Prim.Native.Nat.{ℕ, zero, suc, _+_, _*_, _^_, _%_, _≤_, _<_}
+use Prim.Native.Nat.{ℕ, zero, suc, _+_, _*_, _≤_}
 use native.Mathlib.Omega.{arith}
 use native.Mathlib.Nat.{mod-lt}
-use mathlib.Core.Path.{_≡_, refl, sym, ap, _∙_, subst}
+use mathlib.Core.Path.{_≡_, refl, sym, ap, _∙_}
 use mathlib.Core.Bool.{Bool, true, false}
 use mathlib.Core.List.{List, [], _∷_, _++_, map, append-assoc}
 use mathlib.Core.Logic.{inl, inr}
@@ -17,18 +17,18 @@ use Rattle.meaning.specs.Ways.{Assigned, plain, emptyMap, emptyList, Prev, head
 use Rattle.meaning.specs.Ways.{Way, assign, delete, insert, intoMap, intoList, Operation, steps}
 use Rattle.meaning.specs.Limits.{fits}
 use Rattle.meaning.specs.Members.{All, Has, own, idOfValue}
-use Rattle.meaning.specs.Valid.{ValidId, ValidCounters, ValidKey, ValidPlain, ValidAssigned, ValidPrev, ValidWay, ValidEdit, ValidOperation}
+use Rattle.meaning.specs.Valid.{ValidCounters, ValidPlain, ValidAssigned, ValidPrev, ValidWay, ValidEdit, ValidOperation}
 use Rattle.meaning.specs.Text.{digits, widthFrom, width, decimal, integerText, idText, commaText, countersText, hexDigit, hex, plainText}
 use Rattle.meaning.specs.Text.{assignedText}
 use Rattle.meaning.specs.Message.{prevText, stepsText, doText, editText, message}
 use Rattle.meaning.specs.Sheet.{Spot, inMap, inList, Row, rowsOf, flagsText, spotText, lineText, linesText, rowLines, rowsLines}
-use Rattle.meaning.specs.Sheet.{Line, sheetLine, seenLine, placeLine, markLine, valueLine, endLine, sheetLines, sheet}
-use Rattle.meaning.specs.Load.{times, marksIn, valuesIn, Seen, Named}
+use Rattle.meaning.specs.Sheet.{Line, placeLine, markLine, valueLine, endLine, sheetLines, sheet}
+use Rattle.meaning.specs.Load.{marksIn, valuesIn, Seen, Named}
 use Rattle.meaning.specs.Sound.{Sound}
 use Rattle.theorems.specs.Decimal.{decimal-short}
 use Rattle.theorems.specs.Fit.{RowRule, FitOn}
 use Rattle.theorems.specs.Saved.{sound-fits}
-use Rattle.theorems.specs.Running.{Room, MarksSeen, holder-seen, moves, named}
+use Rattle.theorems.specs.Running.{Room, holder-seen, moves, named}
 use Rattle.theorems.specs.Accepting.{fits-limits, sound-room}
 
 -- The parts.
