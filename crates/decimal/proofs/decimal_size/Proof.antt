@@ -1,0 +1,60 @@
+-- `decimal::decimal_size` meets its contract. The loop's invariant: no power that was passed is above v.
+-- Assumes nothing.
+use Prim.Native.Nat.{_-_, _^_, _≤_, _<_}
+use native.Mathlib.Omega.{arith}
+use mathlib.Core.Path.{_≡_, subst}
+use Rattle.decimal.proofs.Table.{power, size-is, passed}
+use borrow.Author.Needs.{needs}
+use Rattle.decimal.proofs.decimal_size.Statement.{statement}
+use Rattle.decimal.proofs.decimal_size.Tie as tie
+
+abbrev Inv-loop : tie.InvT-loop
+Inv-loop v t n₀ n = (1 ≤ n) × (n ≤ 20) × (1 < n → 10 ^ (n - 1) ≤ v)
+
+abbrev μ-loop : tie.MeasureT-loop
+μ-loop v t n₀ n = 20 - n
+
+loop-holds : tie.Need-loop-holds Inv-loop μ-loop
+loop-holds c = (omega arith, omega arith, λ h. absurd (omega arith))
+
+mul-if1 : tie.Need-mul-if1 Inv-loop μ-loop
+mul-if1 c = search needs
+
+element-copy-out-if1 : tie.Need-element-copy-out-if1 Inv-loop μ-loop
+element-copy-out-if1 c = search needs
+
+returns : tie.Need-returns Inv-loop μ-loop
+returns c =
+    let p = power _ (c .before .before .before .loop .n) (c .before .before .before .before .pre) (omega arith) in
+    (size-is _ _ (c .before .before .before .loop .inv .0) (omega arith) (c .before .before .before .loop .inv .2), omega arith, omega arith)
+
+add-n : tie.Need-add-n Inv-loop μ-loop
+add-n c = search needs
+
+loop-less : tie.Need-loop-less Inv-loop μ-loop
+loop-less c = search needs
+
+loop-again : tie.Need-loop-again Inv-loop μ-loop
+loop-again c =
+    let p = power _ (c .before .before .before .loop .n) (c .before .before .before .before .pre) (omega arith) in
+    (omega arith, omega arith, passed _ _ (omega arith))
+
+returns-2 : tie.Need-returns-2 Inv-loop μ-loop
+returns-2 c =
+    let e : 20 ≡ c .before .loop .n = omega arith in
+    (size-is _ _ (c .before .loop .inv .0) (subst (λ (i : Prim.Native.Nat.ℕ). c .before .before .args .v < 10 ^ i) e (omega arith)) (c .before .loop .inv .2), omega arith, omega arith)
+
+pub decimal-size-spec : {M : Type 1} → statement M
+decimal-size-spec =
+    tie.close
+    (tie.spec
+    Inv-loop
+    μ-loop
+    loop-holds
+    mul-if1
+    element-copy-out-if1
+    returns
+    add-n
+    loop-less
+    loop-again
+    returns-2)

@@ -1,0 +1,38 @@
+-- `decimal::spelled` meets its contract: by the table's rule, a number has n digits if it is between two powers.
+-- Assumes nothing.
+use Prim.Native.Nat.{_-_}
+use native.Mathlib.Omega.{arith}
+use mathlib.Core.Path.{refl}
+use Rattle.decimal.proofs.Table.{power, width-is, width-low, width-some, width-most}
+use borrow.Author.Needs.{needs}
+use Rattle.decimal.proofs.spelled.Statement.{statement}
+use Rattle.decimal.proofs.spelled.Tie as tie
+
+returns : tie.Need-returns
+returns c = (refl, refl, width-is _ _ (omega arith) (c .before .pre .1) (λ h. absurd (omega arith)))
+
+returns-2 : tie.Need-returns-2
+returns-2 c = λ e. omega (arith, width-some (c .before .before .args .v))
+
+returns-3 : tie.Need-returns-3
+returns-3 c = λ e. omega (arith, width-most (c .before .before .before .args .v) (omega arith))
+
+sub-if4 : tie.Need-sub-if4
+sub-if4 c = search needs
+
+mul-if4 : tie.Need-mul-if4
+mul-if4 c = search needs
+
+element-copy-out-if4 : tie.Need-element-copy-out-if4
+element-copy-out-if4 c = search needs
+
+returns-4 : tie.Need-returns-4
+returns-4 c = λ e. omega (arith, width-low (c .before .before .before .before .before .args .n) (c .before .before .before .before .before .args .v) e (omega arith), power _ (c .before .before .before .before .before .args .n - 1) (c .before .before .before .before .before .pre .0) (omega arith))
+
+returns-5 : tie.Need-returns-5
+returns-5 c = (refl, refl, width-is _ _ (omega arith) (c .before .before .before .before .before .pre .1) (λ h. omega (arith, power _ (c .before .before .before .before .before .args .n - 1) (c .before .before .before .before .before .pre .0) (omega arith))))
+
+pub spelled-spec : {M : Type 1} → statement M
+spelled-spec =
+    tie.close
+    (tie.spec returns returns-2 returns-3 sub-if4 mul-if4 element-copy-out-if4 returns-4 returns-5)

@@ -1,0 +1,105 @@
+-- `decimal::take_decimal` meets its contract. The loop's invariant, `Run`: what was passed are digits, and v is their number.
+-- Assumes nothing.
+use Prim.Native.Nat.{_-_}
+use native.Mathlib.Omega.{arith}
+use mathlib.Core.Path.{refl}
+use lib.ListN.{length, getD}
+use denote.Ref.{now}
+use Rattle.meaning.specs.Ascii.{byte}
+use Rattle.decimal.proofs.Runs.{Run, start, low-stops, high-stops, end-stops, more, above, settled}
+use borrow.Author.Needs.{needs}
+use Rattle.decimal.proofs.take_decimal.Statement.{statement}
+use Rattle.decimal.proofs.take_decimal.Tie as tie
+
+abbrev Inv-loop : tie.InvT-loop
+Inv-loop s a max t tenth v₀ i₀ v i = Run max s a i v
+
+abbrev μ-loop : tie.MeasureT-loop
+μ-loop s a max t tenth v₀ i₀ v i = length s - i
+
+loop-holds : tie.Need-loop-holds Inv-loop μ-loop
+loop-holds c = start _ _ _
+
+shared-slice-read-b : tie.Need-shared-slice-read-b Inv-loop μ-loop
+shared-slice-read-b c = search needs
+
+sub-spelled : tie.Need-sub-spelled Inv-loop μ-loop
+sub-spelled c = search needs
+
+spelled-requires : tie.Need-spelled-requires Inv-loop μ-loop
+spelled-requires c κs = search needs
+
+returns : tie.Need-returns Inv-loop μ-loop
+returns c = settled _ _ _ _ _ (c .before .before .before .before .loop .inv) _ refl (low-stops _ _ (c .before .before .before .loop-test .taken) (c .before .if1 .taken)) (c .spelled .result) (c .spelled .ensures)
+
+sub-spelled-2 : tie.Need-sub-spelled-2 Inv-loop μ-loop
+sub-spelled-2 c = search needs
+
+spelled-requires-2 : tie.Need-spelled-requires-2 Inv-loop μ-loop
+spelled-requires-2 c κs = search needs
+
+returns-2 : tie.Need-returns-2 Inv-loop μ-loop
+returns-2 c = settled _ _ _ _ _ (c .before .before .before .before .before .loop .inv) _ refl (high-stops _ _ (c .before .before .before .before .loop-test .taken) (c .before .if2 .taken)) (c .spelled2 .result) (c .spelled2 .ensures)
+
+returns-3 : tie.Need-returns-3 Inv-loop μ-loop
+returns-3 c = above _ _ _ _ _ (c .before .before .before .before .before .loop .inv) (getD (now (c .before .before .before .before .before .before .before .args .s)) (c .before .before .before .before .before .loop .i) 0 - byte "0") (record { inside = c .before .before .before .before .loop-test .taken; low = c .before .before .if1 .left; high = c .before .if2 .left; digit = refl }) (omega arith)
+
+wide-requires : tie.Need-wide-requires Inv-loop μ-loop
+wide-requires c κs = search needs
+
+mul-w : tie.Need-mul-w Inv-loop μ-loop
+mul-w c = search needs
+
+sub-if4 : tie.Need-sub-if4 Inv-loop μ-loop
+sub-if4 c = search needs
+
+returns-4 : tie.Need-returns-4 Inv-loop μ-loop
+returns-4 c = above _ _ _ _ _ (c .before .before .before .before .before .before .before .loop .inv) (c .before .wide .result) (record { inside = c .before .before .before .before .before .before .loop-test .taken; low = c .before .before .before .before .if1 .left; high = c .before .before .before .if2 .left; digit = omega arith }) (omega arith)
+
+add-v : tie.Need-add-v Inv-loop μ-loop
+add-v c = search needs
+
+add-i : tie.Need-add-i Inv-loop μ-loop
+add-i c = search needs
+
+loop-less : tie.Need-loop-less Inv-loop μ-loop
+loop-less c = search needs
+
+loop-again : tie.Need-loop-again Inv-loop μ-loop
+loop-again c = more _ _ _ _ _ (c .before .before .before .before .before .before .before .loop .inv) (c .before .wide .result) (record { inside = c .before .before .before .before .before .before .loop-test .taken; low = c .before .before .before .before .if1 .left; high = c .before .before .before .if2 .left; digit = omega arith }) (omega arith)
+
+sub-spelled-3 : tie.Need-sub-spelled-3 Inv-loop μ-loop
+sub-spelled-3 c = search needs
+
+spelled-requires-3 : tie.Need-spelled-requires-3 Inv-loop μ-loop
+spelled-requires-3 c κs = search needs
+
+returns-5 : tie.Need-returns-5 Inv-loop μ-loop
+returns-5 c = settled _ _ _ _ _ (c .before .before .loop .inv) _ refl (end-stops _ _ (c .before .loop-test .left)) (c .spelled3 .result) (c .spelled3 .ensures)
+
+pub take-decimal-spec : {M : Type 1} → statement M
+take-decimal-spec =
+    tie.close
+    (tie.spec
+    Inv-loop
+    μ-loop
+    loop-holds
+    shared-slice-read-b
+    sub-spelled
+    spelled-requires
+    returns
+    sub-spelled-2
+    spelled-requires-2
+    returns-2
+    returns-3
+    wide-requires
+    mul-w
+    sub-if4
+    returns-4
+    add-v
+    add-i
+    loop-less
+    loop-again
+    sub-spelled-3
+    spelled-requires-3
+    returns-5)
