@@ -30,8 +30,10 @@ module _ {X Y : Type 0} where
 
   module _ (A : Layout X) (B : Layout Y) (follows : Follows A B) (s : List ℕ) (a : ℕ) where
     pub no-first : Never A s a → Never (then A B) s a
-    no-first h = record { not = λ p t ok st e.
-      h .not (p .0) (B .text (p .1) ++ t) (ok .0) (follows (p .0) (p .1) t (ok .1) st) (e ∙ append-assoc (A .text (p .0)) (B .text (p .1)) t) }
+    no-first h = record {
+      not = λ p t ok st e.
+          h .not (p .0) (B .text (p .1) ++ t) (ok .0) (follows (p .0) (p .1) t (ok .1) st) (e ∙ append-assoc (A .text (p .0)) (B .text (p .1)) t);
+    }
 
     module _ (x : X) (n : ℕ) (k : Took A s a x n) where
       past : (p : X × Y) (t : List ℕ) → then A B .Valid p → B .More (p .1) t → drop a s ≡ then A B .text p ++ t
@@ -50,9 +52,9 @@ module _ {X Y : Type 0} where
             rest = l .rest;
             within = λ h. l .within (k .within h);
             only = λ p t ok st e.
-              let q = past p t ok st e in
-              let r = l .only (p .1) t (ok .1) st (sym (q .1)) in
-              (λ i. (q .0 i, r .0 i), r .1);
+                let q = past p t ok st e in
+                let r = l .only (p .1) t (ok .1) st (sym (q .1)) in
+                (λ i. (q .0 i, r .0 i), r .1);
           }
 
 -- The same texts, of other things.
@@ -83,6 +85,6 @@ module _ {X Y : Type 0} (L : Layout X) (M : Layout Y) (i : Alike L M) (s : List 
         rest = i .less y (drop n s) (k .rest);
         within = k .within;
         only = λ x t ok st e.
-          let q = k .only (i .from x) t (i .valid x ok) (i .more x t st) (there x t ok e) in
-          (sym (i .back x ok) ∙ ap (i .to) (q .0), q .1);
+            let q = k .only (i .from x) t (i .valid x ok) (i .more x t st) (there x t ok e) in
+            (sym (i .back x ok) ∙ ap (i .to) (q .0), q .1);
       }

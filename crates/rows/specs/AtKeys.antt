@@ -15,11 +15,11 @@ use Rattle.rows.specs.Blocks.{seekRows, made, atKeyRows}
 use Rattle.rows.specs.Spans.{shallow-children}
 use Rattle.rows.specs.Seeking.{Simulates, seek-none, seek-pass, seek-meant, seek-stop}
 
-below-turn : (k j : List ℕ) (t : Turn) → order k j ≡ t
+pub below-turn : (k j : List ℕ) (t : Turn) → order k j ≡ t
     → keyBelow k (inMap j) ≡ elim t [ before ↦ false | equal ↦ false | beyond ↦ true ]
 below-turn k j t e = ap (λ t. elim t as (λ t. Bool) [ before ↦ false | equal ↦ false | beyond ↦ true ]) e
 
-key-turn : (k j : List ℕ) (t : Turn) → order k j ≡ t → isKey k (inMap j) ≡ elim t [ before ↦ false | equal ↦ true | beyond ↦ false ]
+pub key-turn : (k j : List ℕ) (t : Turn) → order k j ≡ t → isKey k (inMap j) ≡ elim t [ before ↦ false | equal ↦ true | beyond ↦ false ]
 key-turn k j t e = ap (λ t. elim t as (λ t. Bool) [ before ↦ false | equal ↦ true | beyond ↦ false ]) e
 
 module _ (n : ℕ) (k : List ℕ) (f : Place → Place) (g : Block → Block) (h : Simulates n f g) (es : Elements) where

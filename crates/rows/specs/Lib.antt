@@ -4,3 +4,7 @@ pub mod Seeking
 pub mod AtKeys
 pub mod AtElements
 pub mod Follows
+pub mod Locate
+pub mod Counting
+pub mod Balanced
+pub mod Room

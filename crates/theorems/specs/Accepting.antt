@@ -29,17 +29,17 @@ use Rattle.theorems.specs.Taken.{Tree, tree}
 
 -- The size of a document is that of its rows.
 
-record Sizes (z : Size) (rs : List Row) : Type 0 where
-  places : z .places ≡ length rs
-  marks : z .marks ≡ marksIn rs
-  values : z .values ≡ valuesIn rs
+pub record Sizes (z : Size) (rs : List Row) : Type 0 where
+  pub places : z .places ≡ length rs
+  pub marks : z .marks ≡ marksIn rs
+  pub values : z .values ≡ valuesIn rs
 
-marks-append : (xs ys : List Row) → marksIn (xs ++ ys) ≡ marksIn xs + marksIn ys
+pub marks-append : (xs ys : List Row) → marksIn (xs ++ ys) ≡ marksIn xs + marksIn ys
 unfolding marksIn
 marks-append [] ys = omega arith
 marks-append (x ∷ xs) ys = omega (arith, marks-append xs ys)
 
-values-append : (xs ys : List Row) → valuesIn (xs ++ ys) ≡ valuesIn xs + valuesIn ys
+pub values-append : (xs ys : List Row) → valuesIn (xs ++ ys) ≡ valuesIn xs + valuesIn ys
 unfolding valuesIn
 values-append [] ys = omega arith
 values-append (x ∷ xs) ys = omega (arith, values-append xs ys)
@@ -77,7 +77,7 @@ mutual
   size-place (place m l ms vs ks es) n p =
       sizes-row n p m l ms vs ks es _ _ (sizes-append _ _ _ _ (size-children ks (suc n)) (size-elements es (suc n)))
 
-  size-children : (ks : Children) (n : ℕ) → Sizes (sizeChildren ks) (rowsChildren n ks)
+  pub size-children : (ks : Children) (n : ℕ) → Sizes (sizeChildren ks) (rowsChildren n ks)
   size-children childless n = no-size
   size-children (child k c ks) n =
       sizes-append (size c) (sizeChildren ks) (rowOf n (inMap k) c ∷ rows (suc n) c) (rowsChildren n ks) (size-place c n (inMap k))
