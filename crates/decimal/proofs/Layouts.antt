@@ -2,8 +2,8 @@
 -- these: what it takes, and what it refuses.
 -- Assumes nothing.
 use Prim.Native.Nat.{ℕ, _≤_}
-use mathlib.Core.Path.{_≡_, refl, sym, ap, _∙_, subst}
-use mathlib.Core.List.{List, [], _∷_, _++_, append-assoc}
+use mathlib.Core.Path.{_≡_, refl, sym, ap, _∙_}
+use mathlib.Core.List.{List, _++_, append-assoc}
 use lib.ListN.{length, drop}
 use Rattle.decimal.specs.Take.{Layout, Took, Never, fixed}
 use Rattle.decimal.proofs.Digits.{cancel}

@@ -113,17 +113,24 @@ module _ (max : ℕ) (s : List ℕ) (a i v : ℕ) (r : Run max s a i v) where
         p (ap width k ∙ (sym g ∙ sym e));
   }
 
--- From 1 on.
+-- From min on.
 
-pub none-positive : (max : ℕ) (s : List ℕ) (a : ℕ) → Never (numbers 0 max) s a → Never (numbers 1 max) s a
-none-positive max s a r = record { not = λ y t ok st e. r .not y t (omega arith, ok .1) st e }
+pub none-between : (min max : ℕ) (s : List ℕ) (a : ℕ) → Never (numbers 0 max) s a → Never (numbers min max) s a
+none-between min max s a r = record { not = λ y t ok st e. r .not y t (omega arith, ok .1) st e }
 
-module _ (max : ℕ) (s : List ℕ) (a v n : ℕ) (r : Took (numbers 0 max) s a v n) where
-  pub zero-stands : v ≡ 0 → Never (numbers 1 max) s a
-  zero-stands z = record { not = λ y t ok st e. omega (arith, ok .0, r .only y t (omega arith, ok .1) st e .0) }
+module _ (min max : ℕ) (s : List ℕ) (a v n : ℕ) (r : Took (numbers 0 max) s a v n) where
+  pub too-small : v < min → Never (numbers min max) s a
+  too-small z = record { not = λ y t ok st e. omega (arith, ok .0, r .only y t (omega arith, ok .1) st e .0) }
 
-  pub positive : (v ≡ 0 → ⊥) → Took (numbers 1 max) s a v n
-  positive z = record { valid = (omega arith, r .valid .1); text = r .text; rest = r .rest; within = r .within; only = λ y t ok st e. r .only y t (omega arith, ok .1) st e }
+  pub between : min ≤ v → Took (numbers min max) s a v n
+  between z =
+      record {
+        valid = (z, r .valid .1);
+        text = r .text;
+        rest = r .rest;
+        within = r .within;
+        only = λ y t ok st e. r .only y t (omega arith, ok .1) st e;
+      }
 
 -- Writing.
 

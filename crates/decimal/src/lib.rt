@@ -101,15 +101,15 @@ pub fn take_decimal(s: &[u8], a: usize, max: u64, t: &[u64; 20]) -> Number
     spelled(i - a, v, i, t)
 }
 
-// The same, from 1 on.
-pub fn take_positive(s: &[u8], a: usize, max: u64, t: &[u64; 20]) -> Number
+// The same, from min on.
+pub fn take_between(s: &[u8], a: usize, min: u64, max: u64, t: &[u64; 20]) -> Number
     requires { ⌜ now t ≡ powersOfTen ⌝ }
-    ensures { λ r. ⌜ ReadsNumber (numbers 1 max) (now (s .entry)) a r ⌝ }
+    ensures { λ r. ⌜ ReadsNumber (numbers min max) (now (s .entry)) a r ⌝ }
 {
     let Number::Value { value, next } = take_decimal(s, a, max, t) else {
         return Number::Bad;
     };
-    if value == 0 {
+    if value < min {
         return Number::Bad;
     }
     Number::Value { value, next }

@@ -1,0 +1,71 @@
+-- `counters::all_below` meets its contract: the entries before k decide nothing. Assumes nothing.
+use Prim.Native.Nat.{_≤_, _-_}
+use mathlib.Core.Path.{_≡_, refl, sym, _∙_}
+use native.Mathlib.Omega.{arith}
+use borrow.Author.Needs.{needs}
+use lib.ListN.{length, drop}
+use Rattle.meaning.specs.Ids.{allBelow}
+use Rattle.counters.proofs.Entries.{eight, allBelow-goes, allBelow-stops, allBelow-ends}
+use Rattle.counters.proofs.all_below.Statement.{statement}
+use Rattle.counters.proofs.all_below.Tie as tie
+use Rattle.counters.proofs.all_below.Reads as reads
+use Rattle.counters.proofs.all_below.Lts as lts
+use Rattle.counters.proofs.wide.Reads as wide-reads
+
+abbrev Inv-loop : tie.InvT-loop
+Inv-loop c d k₀ k = (k ≤ 8) × (allBelow c (d .at) ≡ allBelow c (drop k (d .at)))
+
+abbrev μ-loop : tie.MeasureT-loop
+μ-loop c d k₀ k = 8 - k
+
+loop-holds : tie.Need-loop-holds Inv-loop μ-loop
+loop-holds c = (omega arith, refl)
+
+mul-wide : tie.Need-mul-wide Inv-loop μ-loop
+mul-wide c = search needs
+
+element-copy-out-wide : tie.Need-element-copy-out-wide Inv-loop μ-loop
+element-copy-out-wide c = search needs
+
+wide-requires : tie.Need-wide-requires Inv-loop μ-loop
+wide-requires c κs = search needs
+
+returns : tie.Need-returns Inv-loop μ-loop
+returns c =
+    let a = c .before .before .before .before .before in
+    let d = eight (a .args .t2 .at) (a .good .1 .0 .1 .1 .0 .1 .0 .1) in
+    sym (c .before .before .before .before .loop .inv .1 ∙ allBelow-stops (a .args .t2 .at) (c .before .before .before .before .loop .k) (omega arith) (a .args .c) (omega arith))
+
+add-k : tie.Need-add-k Inv-loop μ-loop
+add-k c = omega arith
+
+loop-less : tie.Need-loop-less Inv-loop μ-loop
+loop-less c = omega arith
+
+loop-again : tie.Need-loop-again Inv-loop μ-loop
+loop-again c =
+    let a = c .before .before .before .before .before in
+    let d = eight (a .args .t2 .at) (a .good .1 .0 .1 .1 .0 .1 .0 .1) in
+    (omega arith, c .before .before .before .before .loop .inv .1 ∙ allBelow-goes (a .args .t2 .at) (c .before .before .before .before .loop .k) (omega arith) (a .args .c) (omega arith))
+
+returns-2 : tie.Need-returns-2 Inv-loop μ-loop
+returns-2 c =
+    let a = c .before .before in
+    let d = eight (a .args .t2 .at) (a .good .1 .0 .1 .1 .0 .1 .0 .1) in
+    sym (c .before .loop .inv .1 ∙ allBelow-ends (a .args .t2 .at) (c .before .loop .k) (omega arith) (a .args .c))
+
+pub all-below-spec : {M : Type 1} → statement M
+all-below-spec =
+    tie.close
+    (tie.spec
+    Inv-loop
+    μ-loop
+    loop-holds
+    mul-wide
+    element-copy-out-wide
+    wide-requires
+    returns
+    add-k
+    loop-less
+    loop-again
+    returns-2)

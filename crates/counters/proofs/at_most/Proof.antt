@@ -1,0 +1,76 @@
+-- `counters::at_most` meets its contract: the entries before k decide nothing. Assumes nothing.
+use Prim.Native.Nat.{_≤_, _-_}
+use mathlib.Core.Path.{_≡_, refl, sym, _∙_}
+use native.Mathlib.Omega.{arith}
+use borrow.Author.Needs.{needs}
+use lib.ListN.{length, drop}
+use Rattle.meaning.specs.Ids.{atMost}
+use Rattle.counters.proofs.Entries.{eight, atMost-goes, atMost-stops, atMost-ends}
+use Rattle.counters.proofs.at_most.Statement.{statement}
+use Rattle.counters.proofs.at_most.Tie as tie
+use Rattle.counters.proofs.at_most.Reads as reads
+use Rattle.counters.proofs.at_most.Lts as lts
+
+abbrev Inv-loop : tie.InvT-loop
+Inv-loop d s k₀ k = (k ≤ 8) × (atMost (d .at) (s .at) ≡ atMost (drop k (d .at)) (drop k (s .at)))
+
+abbrev μ-loop : tie.MeasureT-loop
+μ-loop d s k₀ k = 8 - k
+
+loop-holds : tie.Need-loop-holds Inv-loop μ-loop
+loop-holds c = (omega arith, refl)
+
+mul-if1 : tie.Need-mul-if1 Inv-loop μ-loop
+mul-if1 c = search needs
+
+element-copy-out-if1 : tie.Need-element-copy-out-if1 Inv-loop μ-loop
+element-copy-out-if1 c = search needs
+
+mul-if1-2 : tie.Need-mul-if1-2 Inv-loop μ-loop
+mul-if1-2 c = search needs
+
+element-copy-out-if1-2 : tie.Need-element-copy-out-if1-2 Inv-loop μ-loop
+element-copy-out-if1-2 c = search needs
+
+returns : tie.Need-returns Inv-loop μ-loop
+returns c =
+    let a = c .before .before .before .before .before in
+    let d = eight (a .args .t1 .at) (a .good .0 .1 .1 .0 .1 .0 .1) in
+    let s = eight (a .args .t2 .at) (a .good .1 .0 .1 .1 .0 .1 .0 .1) in
+    sym (c .before .before .before .before .loop .inv .1 ∙ atMost-stops (a .args .t1 .at) (a .args .t2 .at) (c .before .before .before .before .loop .k) (omega arith) (omega arith) (c .if1 .taken))
+
+add-k : tie.Need-add-k Inv-loop μ-loop
+add-k c = omega arith
+
+loop-less : tie.Need-loop-less Inv-loop μ-loop
+loop-less c = omega arith
+
+loop-again : tie.Need-loop-again Inv-loop μ-loop
+loop-again c =
+    let a = c .before .before .before .before .before in
+    let d = eight (a .args .t1 .at) (a .good .0 .1 .1 .0 .1 .0 .1) in
+    let s = eight (a .args .t2 .at) (a .good .1 .0 .1 .1 .0 .1 .0 .1) in
+    (omega arith, c .before .before .before .before .loop .inv .1 ∙ atMost-goes (a .args .t1 .at) (a .args .t2 .at) (c .before .before .before .before .loop .k) (omega arith) (omega arith) (c .if1 .left))
+
+returns-2 : tie.Need-returns-2 Inv-loop μ-loop
+returns-2 c =
+    let a = c .before .before in
+    let d = eight (a .args .t1 .at) (a .good .0 .1 .1 .0 .1 .0 .1) in
+    sym (c .before .loop .inv .1 ∙ atMost-ends (a .args .t1 .at) (a .args .t2 .at) (c .before .loop .k) (omega arith))
+
+pub at-most-spec : {M : Type 1} → statement M
+at-most-spec =
+    tie.close
+    (tie.spec
+    Inv-loop
+    μ-loop
+    loop-holds
+    mul-if1
+    element-copy-out-if1
+    mul-if1-2
+    element-copy-out-if1-2
+    returns
+    add-k
+    loop-less
+    loop-again
+    returns-2)

@@ -1,0 +1,66 @@
+-- `counters::largest` meets its contract: m is the largest entry before k. Assumes nothing.
+use Prim.Native.Nat.{_≤_, _-_, max}
+use mathlib.Core.Path.{_≡_, refl, sym, _∙_}
+use mathlib.Core.Logic.{⊎-elim}
+use native.Mathlib.Omega.{arith}
+use borrow.Author.Needs.{needs}
+use lib.ListN.{length, drop}
+use Rattle.meaning.specs.Edit.{largest}
+use Rattle.counters.proofs.Entries.{eight, largest-goes, largest-ends}
+use Rattle.counters.proofs.largest.Statement.{statement}
+use Rattle.counters.proofs.largest.Tie as tie
+use Rattle.counters.proofs.largest.Reads as reads
+use Rattle.counters.proofs.largest.Lts as lts
+use Rattle.counters.proofs.wide.Reads as wide-reads
+
+abbrev Inv-loop : tie.InvT-loop
+Inv-loop s m₀ k₀ m k = (k ≤ 8) × (largest (s .at) ≡ max m (largest (drop k (s .at))))
+
+abbrev μ-loop : tie.MeasureT-loop
+μ-loop s m₀ k₀ m k = 8 - k
+
+loop-holds : tie.Need-loop-holds Inv-loop μ-loop
+loop-holds c = (omega arith, omega arith)
+
+mul-wide : tie.Need-mul-wide Inv-loop μ-loop
+mul-wide c = search needs
+
+element-copy-out-wide : tie.Need-element-copy-out-wide Inv-loop μ-loop
+element-copy-out-wide c = search needs
+
+wide-requires : tie.Need-wide-requires Inv-loop μ-loop
+wide-requires c κs = search needs
+
+add-k : tie.Need-add-k Inv-loop μ-loop
+add-k c = omega arith
+
+loop-less : tie.Need-loop-less Inv-loop μ-loop
+loop-less c = omega arith
+
+loop-again : tie.Need-loop-again Inv-loop μ-loop
+loop-again c =
+    let a = c .before .before .before .before .before in
+    let s = eight (a .args .t1 .at) (a .good .0 .1 .1 .0 .1 .0 .1) in
+    let g = largest-goes (a .args .t1 .at) (c .before .before .before .before .loop .k) (omega arith) in
+    (omega arith, ⊎-elim (λ w. omega arith) (λ w. omega arith) (c .if1 .came))
+
+returns : tie.Need-returns Inv-loop μ-loop
+returns c =
+    let a = c .before .before in
+    let s = eight (a .args .t1 .at) (a .good .0 .1 .1 .0 .1 .0 .1) in
+    omega (arith, largest-ends (a .args .t1 .at) (c .before .loop .k) (omega arith))
+
+pub largest-spec : {M : Type 1} → statement M
+largest-spec =
+    tie.close
+    (tie.spec
+    Inv-loop
+    μ-loop
+    loop-holds
+    mul-wide
+    element-copy-out-wide
+    wide-requires
+    add-k
+    loop-less
+    loop-again
+    returns)

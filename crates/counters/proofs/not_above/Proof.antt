@@ -1,0 +1,18 @@
+-- `counters::not_above` meets its contract. Assumes nothing.
+use Rattle.meaning.specs.Judge.{notAbove}
+use borrow.Author.Needs.{needs}
+use Rattle.counters.proofs.not_above.Statement.{statement}
+use Rattle.counters.proofs.not_above.Tie as tie
+use Rattle.counters.proofs.not_above.Reads as reads
+use Rattle.counters.proofs.not_above.Lts as lts
+use Rattle.counters.proofs.all_below.Reads as all-below-reads
+
+all-below-requires : tie.Need-all-below-requires
+all-below-requires c κs = search needs
+
+returns : tie.Need-returns
+unfolding notAbove
+returns c = λ o e f. rw (c .all-below .ensures, e, f)
+
+pub not-above-spec : {M : Type 1} → statement M
+not-above-spec = tie.close (tie.spec all-below-requires returns)

@@ -1,0 +1,37 @@
+-- `counters::ready` meets its contract: its own entry is judged first. Assumes nothing.
+use mathlib.Core.Path.{_≡_}
+use native.Mathlib.Omega.{arith}
+use borrow.Author.Tests.{eq-eqb, ne-eqb}
+use Rattle.meaning.specs.Ids.{entryOf, entry, ready}
+use borrow.Author.Needs.{needs}
+use Rattle.counters.proofs.ready.Statement.{statement}
+use Rattle.counters.proofs.ready.Tie as tie
+use Rattle.counters.proofs.ready.Reads as reads
+use Rattle.counters.proofs.ready.Lts as lts
+use Rattle.counters.proofs.at_most.Reads as at-most-reads
+use Rattle.counters.proofs.entry.Reads as entry-reads
+
+entry-requires : tie.Need-entry-requires
+entry-requires c κs = search needs
+
+entry-requires-2 : tie.Need-entry-requires-2
+entry-requires-2 c κs = search needs
+
+returns : tie.Need-returns
+unfolding ready
+returns c =
+    let a = c .before .before .before .args in
+    rw (ne-eqb (entry (a .d .at) (entryOf (a .id))) (entry (a .s .at) (entryOf (a .id))) (λ e. c .if1 .taken (omega arith)))
+
+at-most-requires : tie.Need-at-most-requires
+at-most-requires c κs = search needs
+
+returns-2 : tie.Need-returns-2
+unfolding ready
+returns-2 c =
+    let a = c .before .before .before .before .args in
+    rw (eq-eqb (entry (a .d .at) (entryOf (a .id))) (entry (a .s .at) (entryOf (a .id))) (omega arith)) (c .at-most .ensures)
+
+pub ready-spec : {M : Type 1} → statement M
+ready-spec =
+    tie.close (tie.spec entry-requires entry-requires-2 returns at-most-requires returns-2)

@@ -1,0 +1,18 @@
+-- `counters::repeated` meets its contract. Assumes nothing.
+use Rattle.meaning.specs.Judge.{repeated}
+use borrow.Author.Needs.{needs}
+use Rattle.counters.proofs.repeated.Statement.{statement}
+use Rattle.counters.proofs.repeated.Tie as tie
+use Rattle.counters.proofs.repeated.Reads as reads
+use Rattle.counters.proofs.repeated.Lts as lts
+use Rattle.counters.proofs.entry.Reads as entry-reads
+
+entry-requires : tie.Need-entry-requires
+entry-requires c κs = search needs
+
+returns : tie.Need-returns
+unfolding repeated
+returns c = λ o e. rw (c .entry .ensures, e)
+
+pub repeated-spec : {M : Type 1} → statement M
+repeated-spec = tie.close (tie.spec entry-requires returns)

@@ -1,0 +1,66 @@
+-- `counters::spent` meets its contract: the entries before k decide nothing. Assumes nothing.
+use Prim.Native.Nat.{_≤_, _-_}
+use mathlib.Core.Path.{_≡_, refl, sym, _∙_}
+use native.Mathlib.Omega.{arith}
+use borrow.Author.Needs.{needs}
+use lib.ListN.{length, drop}
+use Rattle.meaning.specs.Edit.{spent}
+use Rattle.counters.proofs.Entries.{eight, spent-goes, spent-stops, spent-ends}
+use Rattle.counters.proofs.spent.Statement.{statement}
+use Rattle.counters.proofs.spent.Tie as tie
+use Rattle.counters.proofs.spent.Reads as reads
+use Rattle.counters.proofs.spent.Lts as lts
+
+abbrev Inv-loop : tie.InvT-loop
+Inv-loop s k₀ k = (k ≤ 8) × (spent (s .at) ≡ spent (drop k (s .at)))
+
+abbrev μ-loop : tie.MeasureT-loop
+μ-loop s k₀ k = 8 - k
+
+loop-holds : tie.Need-loop-holds Inv-loop μ-loop
+loop-holds c = (omega arith, refl)
+
+mul-if1 : tie.Need-mul-if1 Inv-loop μ-loop
+mul-if1 c = search needs
+
+element-copy-out-if1 : tie.Need-element-copy-out-if1 Inv-loop μ-loop
+element-copy-out-if1 c = search needs
+
+returns : tie.Need-returns Inv-loop μ-loop
+returns c =
+    let a = c .before .before .before .before in
+    let s = eight (a .args .t1 .at) (a .good .0 .1 .1 .0 .1 .0 .1) in
+    sym (c .before .before .before .loop .inv .1 ∙ spent-stops (a .args .t1 .at) (c .before .before .before .loop .k) (omega arith) (c .if1 .taken))
+
+add-k : tie.Need-add-k Inv-loop μ-loop
+add-k c = omega arith
+
+loop-less : tie.Need-loop-less Inv-loop μ-loop
+loop-less c = omega arith
+
+loop-again : tie.Need-loop-again Inv-loop μ-loop
+loop-again c =
+    let a = c .before .before .before .before in
+    let s = eight (a .args .t1 .at) (a .good .0 .1 .1 .0 .1 .0 .1) in
+    (omega arith, c .before .before .before .loop .inv .1 ∙ spent-goes (a .args .t1 .at) (c .before .before .before .loop .k) (omega arith) (c .if1 .left))
+
+returns-2 : tie.Need-returns-2 Inv-loop μ-loop
+returns-2 c =
+    let a = c .before .before in
+    let s = eight (a .args .t1 .at) (a .good .0 .1 .1 .0 .1 .0 .1) in
+    sym (c .before .loop .inv .1 ∙ spent-ends (a .args .t1 .at) (c .before .loop .k) (omega arith))
+
+pub spent-spec : {M : Type 1} → statement M
+spent-spec =
+    tie.close
+    (tie.spec
+    Inv-loop
+    μ-loop
+    loop-holds
+    mul-if1
+    element-copy-out-if1
+    returns
+    add-k
+    loop-less
+    loop-again
+    returns-2)

@@ -1,0 +1,32 @@
+-- `decimal::take_between` meets its contract.
+-- Assumes nothing.
+use mathlib.Core.Path.{subst}
+use denote.Ref.{now}
+use Rattle.decimal.specs.Numbers.{numbers, ReadsNumber}
+use Rattle.decimal.proofs.Runs.{none-between, too-small, between}
+use borrow.Author.Needs.{needs}
+use Rattle.decimal.proofs.take_between.Statement.{statement}
+use Rattle.decimal.proofs.take_between.Tie as tie
+
+take-decimal-requires : tie.Need-take-decimal-requires
+take-decimal-requires c κs = search needs
+
+enum-known-value : tie.Need-enum-known-value
+enum-known-value c = search needs
+
+enum-told : tie.Need-enum-told
+enum-told c = search needs
+
+returns : tie.Need-returns
+returns c = none-between _ _ _ _ (subst (ReadsNumber (numbers 0 (c .before .before .before .before .args .max)) (now (c .before .before .before .before .args .s)) (c .before .before .before .before .args .a)) (c .enum-told .given .1) (c .before .before .take-decimal .ensures))
+
+returns-2 : tie.Need-returns-2
+returns-2 c = too-small _ _ _ _ _ _ (subst (ReadsNumber (numbers 0 (c .before .before .before .before .before .before .args .max)) (now (c .before .before .before .before .before .before .args .s)) (c .before .before .before .before .before .before .args .a)) (c .before .before .value .given .1) (c .before .before .before .before .take-decimal .ensures)) (c .if1 .taken)
+
+returns-3 : tie.Need-returns-3
+returns-3 c = between _ _ _ _ _ _ (subst (ReadsNumber (numbers 0 (c .before .before .before .before .before .before .args .max)) (now (c .before .before .before .before .before .before .args .s)) (c .before .before .before .before .before .before .args .a)) (c .before .before .value .given .1) (c .before .before .before .before .take-decimal .ensures)) (c .if1 .left)
+
+pub take-between-spec : {M : Type 1} → statement M
+take-between-spec =
+    tie.close
+    (tie.spec take-decimal-requires enum-known-value enum-told returns returns-2 returns-3)

@@ -1,0 +1,10 @@
+pub mod Texts
+pub mod Ids
+pub mod Commas
+pub mod Integers
+pub mod Packs
+pub mod Hexes
+pub mod Taking
+pub mod Values
+pub mod Lines
+pub mod Order

@@ -1,0 +1,49 @@
+-- `readers::line_end` meets its contract. The loop's invariant, `Sought`: no line feed stands from a to e.
+-- Assumes nothing.
+use Prim.Native.Nat.{_-_}
+use lib.ListN.{length}
+use Rattle.readers.proofs.Lines.{Sought, start, more, at-feed, at-end}
+use borrow.Author.Needs.{needs}
+use Rattle.readers.proofs.line_end.Statement.{statement}
+use Rattle.readers.proofs.line_end.Tie as tie
+
+abbrev Inv-loop : tie.InvT-loop
+Inv-loop s a e₀ e = Sought s a e
+
+abbrev μ-loop : tie.MeasureT-loop
+μ-loop s a e₀ e = length s - e
+
+loop-holds : tie.Need-loop-holds Inv-loop μ-loop
+loop-holds c = start _ _ (c .pre)
+
+shared-slice-read-if1 : tie.Need-shared-slice-read-if1 Inv-loop μ-loop
+shared-slice-read-if1 c = search needs
+
+returns : tie.Need-returns Inv-loop μ-loop
+returns c = (c .before .before .before .loop .inv .from, c .before .before .before .loop .inv .most, at-feed _ _ _ (c .before .before .before .loop .inv) (c .before .before .loop-test .taken) (c .if1 .taken))
+
+add-e : tie.Need-add-e Inv-loop μ-loop
+add-e c = search needs
+
+loop-less : tie.Need-loop-less Inv-loop μ-loop
+loop-less c = search needs
+
+loop-again : tie.Need-loop-again Inv-loop μ-loop
+loop-again c = more _ _ _ (c .before .before .before .loop .inv) (c .before .before .loop-test .taken) (c .if1 .left)
+
+returns-2 : tie.Need-returns-2 Inv-loop μ-loop
+returns-2 c = (c .before .loop .inv .from, c .before .loop .inv .most, at-end _ _ _ (c .before .loop .inv) (c .loop-test .left))
+
+pub line-end-spec : {M : Type 1} → statement M
+line-end-spec =
+    tie.close
+    (tie.spec
+    Inv-loop
+    μ-loop
+    loop-holds
+    shared-slice-read-if1
+    returns
+    add-e
+    loop-less
+    loop-again
+    returns-2)

@@ -1,0 +1,96 @@
+-- `readers::take_counters` meets its contract. The loop's invariant, `State`: the first i counters stand from a to n, and the others would follow there.
+-- Assumes nothing.
+use Prim.Native.Nat.{_-_}
+use native.Mathlib.Omega.{arith}
+use mathlib.Core.Path.{refl}
+use lib.ListN.{replicate}
+use Rattle.decimal.proofs.Runs.{number-took, number-none}
+use Rattle.readers.proofs.Commas.{State, none, start, step, refuse, done}
+use borrow.Author.Needs.{needs}
+use Rattle.readers.proofs.take_counters.Statement.{statement}
+use Rattle.readers.proofs.take_counters.Tie as tie
+
+abbrev Inv-loop : tie.InvT-loop
+Inv-loop s a t v₀ first m n₀ i₀ v n i = State s a i n v
+
+abbrev μ-loop : tie.MeasureT-loop
+μ-loop s a t v₀ first m n₀ i₀ v n i = 8 - i
+
+take-decimal-requires : tie.Need-take-decimal-requires Inv-loop μ-loop
+take-decimal-requires c κs = search needs
+
+enum-known-first : tie.Need-enum-known-first Inv-loop μ-loop
+enum-known-first c = search needs
+
+enum-told : tie.Need-enum-told Inv-loop μ-loop
+enum-told c = search needs
+
+returns : tie.Need-returns Inv-loop μ-loop
+returns c = none _ _ (number-none _ (c .enum-told .given .1) (c .before .before .take-decimal .ensures))
+
+cast-v : tie.Need-cast-v Inv-loop μ-loop
+cast-v c = omega (arith, number-took _ (c .before .first .given .1) (c .before .before .before .take-decimal .ensures) .valid)
+
+array-write-v : tie.Need-array-write-v Inv-loop μ-loop
+array-write-v c = search needs
+
+loop-holds : tie.Need-loop-holds Inv-loop μ-loop
+loop-holds c = start _ _ _ _ (replicate 8 0) refl (number-took _ (c .before .first .given .1) (c .before .before .before .take-decimal .ensures))
+
+take-comma-requires : tie.Need-take-comma-requires Inv-loop μ-loop
+take-comma-requires c κs = search needs
+
+enum-known-x : tie.Need-enum-known-x Inv-loop μ-loop
+enum-known-x c = search needs
+
+enum-told-2 : tie.Need-enum-told-2 Inv-loop μ-loop
+enum-told-2 c = search needs
+
+returns-2 : tie.Need-returns-2 Inv-loop μ-loop
+returns-2 c = refuse _ _ _ _ _ (c .before .before .before .before .loop .inv) (c .before .before .before .loop-test .taken) (number-none _ (c .enum-told2 .given .1) (c .before .before .take-comma .ensures))
+
+cast-v-2 : tie.Need-cast-v-2 Inv-loop μ-loop
+cast-v-2 c = omega (arith, number-took _ (c .before .x .given .1) (c .before .before .before .take-comma .ensures) .valid)
+
+mul-v : tie.Need-mul-v Inv-loop μ-loop
+mul-v c = search needs
+
+array-write-v-2 : tie.Need-array-write-v-2 Inv-loop μ-loop
+array-write-v-2 c = search needs
+
+add-i : tie.Need-add-i Inv-loop μ-loop
+add-i c = search needs
+
+loop-less : tie.Need-loop-less Inv-loop μ-loop
+loop-less c = search needs
+
+loop-again : tie.Need-loop-again Inv-loop μ-loop
+loop-again c = step _ _ _ _ _ (c .before .before .before .before .before .loop .inv) (c .before .before .before .before .loop-test .taken) _ _ (number-took _ (c .before .x .given .1) (c .before .before .before .take-comma .ensures))
+
+returns-3 : tie.Need-returns-3 Inv-loop μ-loop
+returns-3 c = done _ _ _ _ _ (c .before .loop .inv) (c .loop-test .left)
+
+pub take-counters-spec : {M : Type 1} → statement M
+take-counters-spec =
+    tie.close
+    (tie.spec
+    Inv-loop
+    μ-loop
+    take-decimal-requires
+    enum-known-first
+    enum-told
+    returns
+    cast-v
+    array-write-v
+    loop-holds
+    take-comma-requires
+    enum-known-x
+    enum-told-2
+    returns-2
+    cast-v-2
+    mul-v
+    array-write-v-2
+    add-i
+    loop-less
+    loop-again
+    returns-3)

@@ -1,0 +1,78 @@
+-- `readers::take_id` meets its contract.
+-- Assumes nothing.
+use native.Mathlib.Omega.{arith}
+use Rattle.decimal.proofs.Runs.{number-took, number-none}
+use Rattle.readers.proofs.Texts.{text-took, text-none}
+use Rattle.readers.proofs.Ids.{no-counter, no-point, no-terminal, found}
+use borrow.Author.Needs.{needs}
+use Rattle.readers.proofs.take_id.Statement.{statement}
+use Rattle.readers.proofs.take_id.Tie as tie
+
+take-between-requires : tie.Need-take-between-requires
+take-between-requires c κs = search needs
+
+enum-known-c : tie.Need-enum-known-c
+enum-known-c c = search needs
+
+enum-told : tie.Need-enum-told
+enum-told c = search needs
+
+returns : tie.Need-returns
+returns c = no-counter _ _ (number-none _ (c .enum-told .given .1) (c .before .before .take-between .ensures))
+
+take-byte-requires : tie.Need-take-byte-requires
+take-byte-requires c κs = search needs
+
+enum-known-m : tie.Need-enum-known-m
+enum-known-m c = search needs
+
+enum-told-2 : tie.Need-enum-told-2
+enum-told-2 c = search needs
+
+returns-2 : tie.Need-returns-2
+returns-2 c = no-point _ _ _ _ (number-took _ (c .before .before .before .before .c .given .1) (c .before .before .before .before .before .before .take-between .ensures)) (text-none _ (c .enum-told2 .given .1) (c .before .before .take-byte .ensures))
+
+take-between-requires-2 : tie.Need-take-between-requires-2
+take-between-requires-2 c κs = search needs
+
+enum-known-r : tie.Need-enum-known-r
+enum-known-r c = search needs
+
+enum-told-3 : tie.Need-enum-told-3
+enum-told-3 c = search needs
+
+returns-3 : tie.Need-returns-3
+returns-3 c = no-terminal _ _ _ _ (number-took _ (c .before .before .before .before .before .before .before .before .c .given .1) (c .before .before .before .before .before .before .before .before .before .before .take-between .ensures)) _ (text-took _ (c .before .before .before .before .m .given .1) (c .before .before .before .before .before .before .take-byte .ensures)) (number-none _ (c .enum-told3 .given .1) (c .before .before .take-between2 .ensures))
+
+mul-t12 : tie.Need-mul-t12
+mul-t12 c = omega (arith, number-took _ (c .before .before .before .before .before .before .before .before .before .c .given .1) (c .before .before .before .before .before .before .before .before .before .before .before .take-between .ensures) .valid)
+
+sub-t13 : tie.Need-sub-t13
+sub-t13 c = omega (arith, number-took _ (c .before .r .given .1) (c .before .before .before .take-between2 .ensures) .valid)
+
+add-t14 : tie.Need-add-t14
+add-t14 c = omega (arith, number-took _ (c .before .before .before .before .before .before .before .before .before .c .given .1) (c .before .before .before .before .before .before .before .before .before .before .before .take-between .ensures) .valid, number-took _ (c .before .r .given .1) (c .before .before .before .take-between2 .ensures) .valid)
+
+returns-4 : tie.Need-returns-4
+returns-4 c = found _ _ _ _ (number-took _ (c .before .before .before .before .before .before .before .before .before .c .given .1) (c .before .before .before .before .before .before .before .before .before .before .before .take-between .ensures)) _ (text-took _ (c .before .before .before .before .before .m .given .1) (c .before .before .before .before .before .before .before .take-byte .ensures)) _ _ (number-took _ (c .before .r .given .1) (c .before .before .before .take-between2 .ensures))
+
+pub take-id-spec : {M : Type 1} → statement M
+take-id-spec =
+    tie.close
+    (tie.spec
+    take-between-requires
+    enum-known-c
+    enum-told
+    returns
+    take-byte-requires
+    enum-known-m
+    enum-told-2
+    returns-2
+    take-between-requires-2
+    enum-known-r
+    enum-told-3
+    returns-3
+    mul-t12
+    sub-t13
+    add-t14
+    returns-4)

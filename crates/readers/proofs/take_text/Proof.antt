@@ -1,0 +1,61 @@
+-- `readers::take_text` meets its contract. The loop's invariant, `Passed`: the first i bytes of the text stand from a to n.
+-- Assumes nothing.
+use Prim.Native.Nat.{_-_}
+use lib.ListN.{length}
+use Rattle.readers.proofs.Texts.{Passed, start, step, done, ends, differs}
+use borrow.Author.Needs.{needs}
+use Rattle.readers.proofs.take_text.Statement.{statement}
+use Rattle.readers.proofs.take_text.Tie as tie
+
+abbrev Inv-loop : tie.InvT-loop
+Inv-loop s a text n₀ i₀ n i = Passed text s a i n
+
+abbrev μ-loop : tie.MeasureT-loop
+μ-loop s a text n₀ i₀ n i = length text - i
+
+loop-holds : tie.Need-loop-holds Inv-loop μ-loop
+loop-holds c = start _ _ _
+
+returns : tie.Need-returns Inv-loop μ-loop
+returns c = ends _ _ _ _ _ (c .before .before .loop .inv) (c .before .loop-test .taken) (c .if1 .taken)
+
+shared-slice-read-if2 : tie.Need-shared-slice-read-if2 Inv-loop μ-loop
+shared-slice-read-if2 c = search needs
+
+shared-slice-read-if2-2 : tie.Need-shared-slice-read-if2-2 Inv-loop μ-loop
+shared-slice-read-if2-2 c = search needs
+
+returns-2 : tie.Need-returns-2 Inv-loop μ-loop
+returns-2 c = differs _ _ _ _ _ (c .before .before .before .before .before .loop .inv) (c .before .before .before .before .loop-test .taken) (c .before .before .before .if1 .left) (c .if2 .taken)
+
+add-n : tie.Need-add-n Inv-loop μ-loop
+add-n c = search needs
+
+add-i : tie.Need-add-i Inv-loop μ-loop
+add-i c = search needs
+
+loop-less : tie.Need-loop-less Inv-loop μ-loop
+loop-less c = search needs
+
+loop-again : tie.Need-loop-again Inv-loop μ-loop
+loop-again c = step _ _ _ _ _ (c .before .before .before .before .before .loop .inv) (c .before .before .before .before .loop-test .taken) (c .before .before .before .if1 .left) (c .if2 .left)
+
+returns-3 : tie.Need-returns-3 Inv-loop μ-loop
+returns-3 c = done _ _ _ _ _ (c .before .loop .inv) (c .loop-test .left)
+
+pub take-text-spec : {M : Type 1} → statement M
+take-text-spec =
+    tie.close
+    (tie.spec
+    Inv-loop
+    μ-loop
+    loop-holds
+    returns
+    shared-slice-read-if2
+    shared-slice-read-if2-2
+    returns-2
+    add-n
+    add-i
+    loop-less
+    loop-again
+    returns-3)

@@ -1,0 +1,5 @@
+pub mod Words
+pub mod Reads
+pub mod Hex
+pub mod Given
+pub mod Lines
