@@ -33,6 +33,14 @@ pub fn covered(d: Counters, id: u64) -> bool
     id / 8 <= entry(d, id % 8)
 }
 
+// The same of eight entries that are lent, for a loop over many ids: counters by value are copied at each call.
+pub fn covers(at: &[u32; 8], id: u64) -> bool
+    ensures { λ r. ⌜ r ≡ Ids.covered (now (at .entry)) id ⌝ }
+{
+    let k = (id % 8) as usize;
+    id / 8 <= wide(at[k])
+}
+
 // Whether each entry of d is at most that of s.
 pub fn at_most(d: Counters, s: Counters) -> bool
     ensures { λ r. ⌜ r ≡ Ids.atMost (d .at) (s .at) ⌝ }

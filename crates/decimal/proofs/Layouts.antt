@@ -5,7 +5,7 @@ use Prim.Native.Nat.{ℕ, _≤_}
 use mathlib.Core.Path.{_≡_, refl, sym, ap, _∙_}
 use mathlib.Core.List.{List, _++_, append-assoc}
 use lib.ListN.{length, drop}
-use Rattle.decimal.specs.Take.{Layout, Took, Never, fixed}
+use Rattle.decimal.specs.Take.{Layout, Took, Never, fixed, then}
 use Rattle.decimal.proofs.Digits.{cancel}
 
 -- A fixed text, whatever follows.
@@ -20,10 +20,6 @@ lacks p s a h = record { not = λ y t ok st e. h t e }
 -- Two texts, one behind the other.
 
 module _ {X Y : Type 0} where
-  abbrev pub then : Layout X → Layout Y → Layout (X × Y)
-  then A B =
-      record { Valid = λ p. A .Valid (p .0) × B .Valid (p .1); text = λ p. A .text (p .0) ++ B .text (p .1); More = λ p. B .More (p .1) }
-
   -- a text of the second may follow one of the first
   abbrev pub Follows : Layout X → Layout Y → Type 0
   Follows A B = (x : X) (y : Y) (t : List ℕ) → B .Valid y → B .More y t → A .More x (B .text y ++ t)
@@ -88,3 +84,46 @@ module _ {X Y : Type 0} (L : Layout X) (M : Layout Y) (i : Alike L M) (s : List 
             let q = k .only (i .from x) t (i .valid x ok) (i .more x t st) (there x t ok e) in
             (sym (i .back x ok) ∙ ap (i .to) (q .0), q .1);
       }
+
+-- A kind of things whose texts begin with p, among others whose texts don't.
+
+-- whether y is of the kind
+pub data Kind {X Y : Type 0} (p : List ℕ) (L : Layout X) (M : Layout Y) (make : X → Y) (y : Y) : Type 0 where
+  this : (x : X) → y ≡ make x → (M .Valid y → L .Valid x) → ((t : List ℕ) → M .More y t → L .More x t) → Kind p L M make y
+  other : ((t u : List ℕ) → M .text y ++ t ≡ p ++ u → ⊥) → Kind p L M make y
+
+pub record Case {X Y : Type 0} (p : List ℕ) (L : Layout X) (M : Layout Y) : Type 0 where
+  pub make : X → Y
+  pub text : (x : X) → M .text (make x) ≡ p ++ L .text x
+  pub valid : (x : X) → L .Valid x → M .Valid (make x)
+  pub more : (x : X) (t : List ℕ) → L .More x t → M .More (make x) t
+  pub kind : (y : Y) → Kind p L M make y
+
+module _ {X Y : Type 0} (p : List ℕ) (L : Layout X) (M : Layout Y) (c : Case p L M) (s : List ℕ) (a b : ℕ) (h : Took (fixed p) s a tt b) where
+  behind : (y : Y) (x : X) (t : List ℕ) → y ≡ c .make x → drop a s ≡ M .text y ++ t → drop b s ≡ L .text x ++ t
+  behind y x t q e =
+      cancel p (drop b s) (L .text x ++ t)
+      (sym (h .text) ∙ (e ∙ (ap (λ l. l ++ t) (ap (M .text) q ∙ c .text x) ∙ append-assoc p (L .text x) t)))
+
+  pub case-took : (x : X) (n : ℕ) → Took L s b x n → Took M s a (c .make x) n
+  case-took x n k =
+      record {
+        valid = c .valid x (k .valid);
+        text =
+            h .text
+            ∙ (ap (λ t. p ++ t) (k .text) ∙ (sym (append-assoc p (L .text x) (drop n s)) ∙ ap (λ l. l ++ drop n s) (sym (c .text x))));
+        rest = c .more x (drop n s) (k .rest);
+        within = λ i. k .within (h .within i);
+        only = λ y t ok m e. go y t ok m e (c .kind y);
+      }
+    where
+      go : (y : Y) (t : List ℕ) → M .Valid y → M .More y t → drop a s ≡ M .text y ++ t → Kind p L M (c .make) y → (y ≡ c .make x) × (t ≡ drop n s)
+      go y t ok m e (this z q v w) = let r = k .only z t (v ok) (w t m) (behind y z t q e) in (q ∙ ap (c .make) (r .0), r .1)
+      go y t ok m e (other f) = absurd (f t (drop b s) (sym e ∙ h .text))
+
+  pub case-none : Never L s b → Never M s a
+  case-none k = record { not = λ y t ok m e. go y t ok m e (c .kind y) }
+    where
+      go : (y : Y) (t : List ℕ) → M .Valid y → M .More y t → drop a s ≡ M .text y ++ t → Kind p L M (c .make) y → ⊥
+      go y t ok m e (this z q v w) = k .not z t (v ok) (w t m) (behind y z t q e)
+      go y t ok m e (other f) = f t (drop b s) (sym e ∙ h .text)

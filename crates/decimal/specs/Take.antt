@@ -32,3 +32,8 @@ pub record Wrote (text before after : List ℕ) (n : ℕ) : Type 0 where
 -- A fixed text, whatever follows.
 abbrev pub fixed : List ℕ → Layout (Unit {0})
 fixed p = record { Valid = λ u. Unit {0}; text = λ u. p; More = λ u t. Unit {0} }
+
+-- Two texts, one behind the other.
+abbrev pub then : {X Y : Type 0} → Layout X → Layout Y → Layout (X × Y)
+then A B =
+    record { Valid = λ p. A .Valid (p .0) × B .Valid (p .1); text = λ p. A .text (p .0) ++ B .text (p .1); More = λ p. B .More (p .1) }

@@ -6,9 +6,9 @@ use mathlib.Core.Path.{_≡_, refl, ap, _∙_}
 use mathlib.Core.List.{List, _++_}
 use Rattle.meaning.specs.Ascii.{ascii}
 use Rattle.meaning.specs.Text.{decimal, idText}
-use Rattle.decimal.specs.Take.{Layout, Took, Never, fixed}
+use Rattle.decimal.specs.Take.{Layout, Took, Never, fixed, then}
 use Rattle.decimal.specs.Numbers.{numbers}
-use Rattle.decimal.proofs.Layouts.{then, Alike, no-first, no-second, both, none-alike, took-alike}
+use Rattle.decimal.proofs.Layouts.{Alike, no-first, no-second, both, none-alike, took-alike}
 use Rattle.readers.specs.Reads.{ids}
 
 abbrev pub parts : Layout (ℕ × (Unit {0} × ℕ))

@@ -7,4 +7,3 @@ pub mod Hexes
 pub mod Taking
 pub mod Values
 pub mod Lines
-pub mod Order

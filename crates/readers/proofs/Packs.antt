@@ -2,28 +2,11 @@
 -- Assumes nothing.
 use Prim.Native.Nat.{ℕ, zero, suc, _+_, _-_, _*_, _≤_, _<_}
 use native.Mathlib.Omega.{arith}
-use native.Mathlib.Nat.{mul-le-mul-right, suc-mul}
 use mathlib.Core.Path.{_≡_, refl, sym, ap, _∙_}
 use mathlib.Core.List.{List, [], _∷_, _++_}
 use lib.ListN.{length, drop, set, drop-of-length-le, length-drop}
 use lib.Seq.{drop-append-le}
-use Rattle.meaning.specs.Valid.{Bytes}
 use Rattle.readers.specs.Words.{weight, pack, wordsOf}
-
-pub weight-some : (m : ℕ) → 1 ≤ weight m
-unfolding weight
-weight-some zero = omega arith
-weight-some (suc m) = let r = weight-some m in omega arith
-
--- a smaller byte leaves room for all that follows
-pub step-up : (y x w : ℕ) → y < x → y * w + w ≤ x * w
-step-up y x w h = let s : suc y * w ≤ x * w = mul-le-mul-right w h in omega (arith, suc-mul y w)
-
-pub pack-small : (m : ℕ) (k : List ℕ) → Bytes k → pack m k < weight m
-unfolding pack weight
-pack-small zero k h = omega arith
-pack-small (suc m) [] h = omega (arith, weight-some m)
-pack-small (suc m) (b ∷ k) h = let r = pack-small m k (h .1) in let s = step-up b 256 (weight m) (h .0) in omega arith
 
 pub pack-nil : (m : ℕ) → pack m [] ≡ 0
 unfolding pack

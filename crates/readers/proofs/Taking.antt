@@ -16,7 +16,8 @@ use Rattle.readers.specs.Hex.{Hexed, Unhexed, WordTook, ReadsWord, hexes
 use Rattle.readers.specs.declared.Word.{Word}
 use Rattle.readers.specs.declared.StringRead.{StringRead}
 use Rattle.readers.specs.declared.KeyRead.{KeyRead}
-use Rattle.readers.proofs.Packs.{pack-small, pack-more, words-more}
+use Rattle.readers.specs.Order.{pack-small}
+use Rattle.readers.proofs.Packs.{pack-more, words-more}
 use Rattle.readers.proofs.Hexes.{none-yet, byte-more, join, all, unhexed}
 
 -- A word: `len` bytes are taken, and the next one weighs w.

@@ -1,4 +1,5 @@
 pub mod Words
+pub mod Order
 pub mod Reads
 pub mod Hex
 pub mod Given

@@ -3,14 +3,11 @@ use Prim.Native.Nat.{_≤_, _-_}
 use mathlib.Core.Path.{_≡_, refl, sym, _∙_}
 use native.Mathlib.Omega.{arith}
 use borrow.Author.Needs.{needs}
-use lib.ListN.{length, drop}
+use lib.ListN.{drop}
 use Rattle.meaning.specs.Ids.{allBelow}
 use Rattle.counters.proofs.Entries.{eight, allBelow-goes, allBelow-stops, allBelow-ends}
 use Rattle.counters.proofs.all_below.Statement.{statement}
 use Rattle.counters.proofs.all_below.Tie as tie
-use Rattle.counters.proofs.all_below.Reads as reads
-use Rattle.counters.proofs.all_below.Lts as lts
-use Rattle.counters.proofs.wide.Reads as wide-reads
 
 abbrev Inv-loop : tie.InvT-loop
 Inv-loop c d k₀ k = (k ≤ 8) × (allBelow c (d .at) ≡ allBelow c (drop k (d .at)))

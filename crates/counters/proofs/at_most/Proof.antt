@@ -3,13 +3,11 @@ use Prim.Native.Nat.{_≤_, _-_}
 use mathlib.Core.Path.{_≡_, refl, sym, _∙_}
 use native.Mathlib.Omega.{arith}
 use borrow.Author.Needs.{needs}
-use lib.ListN.{length, drop}
+use lib.ListN.{drop}
 use Rattle.meaning.specs.Ids.{atMost}
 use Rattle.counters.proofs.Entries.{eight, atMost-goes, atMost-stops, atMost-ends}
 use Rattle.counters.proofs.at_most.Statement.{statement}
 use Rattle.counters.proofs.at_most.Tie as tie
-use Rattle.counters.proofs.at_most.Reads as reads
-use Rattle.counters.proofs.at_most.Lts as lts
 
 abbrev Inv-loop : tie.InvT-loop
 Inv-loop d s k₀ k = (k ≤ 8) × (atMost (d .at) (s .at) ≡ atMost (drop k (d .at)) (drop k (s .at)))

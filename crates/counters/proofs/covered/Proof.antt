@@ -3,9 +3,6 @@ use Rattle.meaning.specs.Ids.{covered}
 use borrow.Author.Needs.{needs}
 use Rattle.counters.proofs.covered.Statement.{statement}
 use Rattle.counters.proofs.covered.Tie as tie
-use Rattle.counters.proofs.covered.Reads as reads
-use Rattle.counters.proofs.covered.Lts as lts
-use Rattle.counters.proofs.entry.Reads as entry-reads
 
 entry-requires : tie.Need-entry-requires
 entry-requires c κs = search needs

@@ -3,9 +3,6 @@ use Rattle.meaning.specs.Judge.{crossed}
 use borrow.Author.Needs.{needs}
 use Rattle.counters.proofs.crossed.Statement.{statement}
 use Rattle.counters.proofs.crossed.Tie as tie
-use Rattle.counters.proofs.crossed.Reads as reads
-use Rattle.counters.proofs.crossed.Lts as lts
-use Rattle.counters.proofs.entry.Reads as entry-reads
 
 entry-requires : tie.Need-entry-requires
 entry-requires c κs = search needs

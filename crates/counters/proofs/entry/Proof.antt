@@ -3,9 +3,6 @@ use Rattle.counters.proofs.Entries.{eight, no-entry}
 use borrow.Author.Needs.{needs}
 use Rattle.counters.proofs.entry.Statement.{statement}
 use Rattle.counters.proofs.entry.Tie as tie
-use Rattle.counters.proofs.entry.Reads as reads
-use Rattle.counters.proofs.entry.Lts as lts
-use Rattle.counters.proofs.wide.Reads as wide-reads
 
 mul-wide : tie.Need-mul-wide
 mul-wide c = search needs

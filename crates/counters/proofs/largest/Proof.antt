@@ -1,17 +1,14 @@
 -- `counters::largest` meets its contract: m is the largest entry before k. Assumes nothing.
 use Prim.Native.Nat.{_≤_, _-_, max}
-use mathlib.Core.Path.{_≡_, refl, sym, _∙_}
+use mathlib.Core.Path.{_≡_}
 use mathlib.Core.Logic.{⊎-elim}
 use native.Mathlib.Omega.{arith}
 use borrow.Author.Needs.{needs}
-use lib.ListN.{length, drop}
+use lib.ListN.{drop}
 use Rattle.meaning.specs.Edit.{largest}
 use Rattle.counters.proofs.Entries.{eight, largest-goes, largest-ends}
 use Rattle.counters.proofs.largest.Statement.{statement}
 use Rattle.counters.proofs.largest.Tie as tie
-use Rattle.counters.proofs.largest.Reads as reads
-use Rattle.counters.proofs.largest.Lts as lts
-use Rattle.counters.proofs.wide.Reads as wide-reads
 
 abbrev Inv-loop : tie.InvT-loop
 Inv-loop s m₀ k₀ m k = (k ≤ 8) × (largest (s .at) ≡ max m (largest (drop k (s .at))))

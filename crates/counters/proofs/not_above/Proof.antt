@@ -3,9 +3,6 @@ use Rattle.meaning.specs.Judge.{notAbove}
 use borrow.Author.Needs.{needs}
 use Rattle.counters.proofs.not_above.Statement.{statement}
 use Rattle.counters.proofs.not_above.Tie as tie
-use Rattle.counters.proofs.not_above.Reads as reads
-use Rattle.counters.proofs.not_above.Lts as lts
-use Rattle.counters.proofs.all_below.Reads as all-below-reads
 
 all-below-requires : tie.Need-all-below-requires
 all-below-requires c κs = search needs

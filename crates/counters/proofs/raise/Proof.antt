@@ -5,8 +5,6 @@ use Rattle.counters.specs.Counted.{raised}
 use borrow.Author.Needs.{needs}
 use Rattle.counters.proofs.raise.Statement.{statement}
 use Rattle.counters.proofs.raise.Tie as tie
-use Rattle.counters.proofs.raise.Reads as reads
-use Rattle.counters.proofs.raise.Lts as lts
 
 cast-r : tie.Need-cast-r
 cast-r c = search needs

@@ -1,15 +1,10 @@
 -- `counters::ready` meets its contract: its own entry is judged first. Assumes nothing.
-use mathlib.Core.Path.{_≡_}
 use native.Mathlib.Omega.{arith}
 use borrow.Author.Tests.{eq-eqb, ne-eqb}
 use Rattle.meaning.specs.Ids.{entryOf, entry, ready}
 use borrow.Author.Needs.{needs}
 use Rattle.counters.proofs.ready.Statement.{statement}
 use Rattle.counters.proofs.ready.Tie as tie
-use Rattle.counters.proofs.ready.Reads as reads
-use Rattle.counters.proofs.ready.Lts as lts
-use Rattle.counters.proofs.at_most.Reads as at-most-reads
-use Rattle.counters.proofs.entry.Reads as entry-reads
 
 entry-requires : tie.Need-entry-requires
 entry-requires c κs = search needs

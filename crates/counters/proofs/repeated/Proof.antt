@@ -3,9 +3,6 @@ use Rattle.meaning.specs.Judge.{repeated}
 use borrow.Author.Needs.{needs}
 use Rattle.counters.proofs.repeated.Statement.{statement}
 use Rattle.counters.proofs.repeated.Tie as tie
-use Rattle.counters.proofs.repeated.Reads as reads
-use Rattle.counters.proofs.repeated.Lts as lts
-use Rattle.counters.proofs.entry.Reads as entry-reads
 
 entry-requires : tie.Need-entry-requires
 entry-requires c κs = search needs

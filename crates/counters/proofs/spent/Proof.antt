@@ -3,13 +3,11 @@ use Prim.Native.Nat.{_≤_, _-_}
 use mathlib.Core.Path.{_≡_, refl, sym, _∙_}
 use native.Mathlib.Omega.{arith}
 use borrow.Author.Needs.{needs}
-use lib.ListN.{length, drop}
+use lib.ListN.{drop}
 use Rattle.meaning.specs.Edit.{spent}
 use Rattle.counters.proofs.Entries.{eight, spent-goes, spent-stops, spent-ends}
 use Rattle.counters.proofs.spent.Statement.{statement}
 use Rattle.counters.proofs.spent.Tie as tie
-use Rattle.counters.proofs.spent.Reads as reads
-use Rattle.counters.proofs.spent.Lts as lts
 
 abbrev Inv-loop : tie.InvT-loop
 Inv-loop s k₀ k = (k ≤ 8) × (spent (s .at) ≡ spent (drop k (s .at)))

@@ -13,7 +13,7 @@ abbrev μ-loop : tie.MeasureT-loop
 μ-loop buf₀ v t n x₀ i₀ buf x i = i
 
 decimal-size-requires : tie.Need-decimal-size-requires Inv-loop μ-loop
-decimal-size-requires c κs = search needs
+decimal-size-requires c κs = c .before .pre .0
 
 loop-holds : tie.Need-loop-holds Inv-loop μ-loop
 loop-holds c = unwritten _ _ _ (c .decimal-size .ensures .0)

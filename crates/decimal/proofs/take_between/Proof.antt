@@ -9,7 +9,7 @@ use Rattle.decimal.proofs.take_between.Statement.{statement}
 use Rattle.decimal.proofs.take_between.Tie as tie
 
 take-decimal-requires : tie.Need-take-decimal-requires
-take-decimal-requires c κs = search needs
+take-decimal-requires c κs = c .before .pre
 
 enum-known-value : tie.Need-enum-known-value
 enum-known-value c = search needs

@@ -45,7 +45,7 @@ returns-3 : tie.Need-returns-3 Inv-loop μ-loop
 returns-3 c = above _ _ _ _ _ (c .before .before .before .before .before .loop .inv) (getD (now (c .before .before .before .before .before .before .before .args .s)) (c .before .before .before .before .before .loop .i) 0 - byte "0") (record { inside = c .before .before .before .before .loop-test .taken; low = c .before .before .if1 .left; high = c .before .if2 .left; digit = refl }) (omega arith)
 
 wide-requires : tie.Need-wide-requires Inv-loop μ-loop
-wide-requires c κs = search needs
+wide-requires c κs = tt
 
 mul-w : tie.Need-mul-w Inv-loop μ-loop
 mul-w c = search needs

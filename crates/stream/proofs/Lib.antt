@@ -1,0 +1,7 @@
+pub mod Messages
+pub mod Compare
+pub mod Ending
+pub mod Growing
+pub mod Pieces
+pub mod Runs
+pub mod Moving

@@ -1,0 +1,51 @@
+-- `stream::next_piece` meets its contract.
+-- Assumes nothing.
+use native.Mathlib.Omega.{arith}
+use mathlib.Core.Path.{sym, subst}
+use lib.Seq.{length-take-le}
+use Rattle.stream.specs.Pieces.{Waits, Steps}
+use Rattle.stream.proofs.Pieces.{empties, hands-inside, hands-last, holds-back}
+use borrow.Author.Needs.{needs}
+use Rattle.stream.proofs.next_piece.Statement.{statement}
+use Rattle.stream.proofs.next_piece.Tie as tie
+
+returns : tie.Need-returns
+returns c = empties _ _ (c .before .before .pre) _ (c .if1 .taken)
+
+slice-aggregate-next-message : tie.Need-slice-aggregate-next-message
+slice-aggregate-next-message c = sym (length-take-le _ _ (c .before .before .before .pre .high))
+
+next-message-requires : tie.Need-next-message-requires
+next-message-requires c κs = search needs
+
+hand-requires : tie.Need-hand-requires
+hand-requires c κs = omega (arith, c .before .next-message .ensures .place)
+
+returns-2 : tie.Need-returns-2
+returns-2 c = subst (Steps (c .before .before .before .before .before .before .args .buf .now) (c .before .before .before .before .before .before .args .c) (c .before .before .before .before .before .before .args .last)) (sym (c .hand .ensures)) (hands-inside (c .before .before .before .before .before .before .args .buf .now) (c .before .before .before .before .before .before .args .c) (c .before .before .before .before .before .before .pre) (c .before .before .next-message .result) (c .before .before .next-message .ensures) (c .before .before .before .before .if1 .left) (c .before .before .before .before .before .before .args .last) (c .before .if2 .taken))
+
+hand-requires-2 : tie.Need-hand-requires-2
+hand-requires-2 c κs = omega (arith, c .before .before .next-message .ensures .place)
+
+returns-3 : tie.Need-returns-3
+returns-3 c = subst (Steps (c .before .before .before .before .before .before .before .args .buf .now) (c .before .before .before .before .before .before .before .args .c) (c .before .before .before .before .before .before .before .args .last)) (sym (c .hand2 .ensures)) (hands-last (c .before .before .before .before .before .before .before .args .buf .now) (c .before .before .before .before .before .before .before .args .c) (c .before .before .before .before .before .before .before .pre) (c .before .before .before .next-message .result) (c .before .before .before .next-message .ensures) (c .before .before .before .before .before .if1 .left) (c .before .before .before .before .before .before .before .args .last) (c .before .if3 .taken))
+
+wait-requires : tie.Need-wait-requires
+wait-requires c κs = search needs
+
+returns-4 : tie.Need-returns-4
+returns-4 c = subst (Waits (c .before .before .before .before .before .before .before .args .buf .now) (c .before .before .before .before .before .before .before .args .c) (c .before .before .before .before .before .before .before .args .last)) (sym (c .wait .ensures)) (holds-back (c .before .before .before .before .before .before .before .args .buf .now) (c .before .before .before .before .before .before .before .args .c) (c .before .before .before .before .before .before .before .pre) (c .before .before .before .next-message .result) (c .before .before .before .next-message .ensures) (c .before .before .before .before .before .if1 .left) (c .before .before .before .before .before .before .before .args .last) (c .before .before .if2 .left) (c .before .if3 .left))
+
+pub next-piece-spec : {M : Type 1} → statement M
+next-piece-spec =
+    tie.close
+    (tie.spec
+    returns
+    slice-aggregate-next-message
+    next-message-requires
+    hand-requires
+    returns-2
+    hand-requires-2
+    returns-3
+    wait-requires
+    returns-4)

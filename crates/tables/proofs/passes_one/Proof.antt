@@ -1,0 +1,74 @@
+use borrow.Author.Tests.{eq-eqb, ne-eqb}
+use mathlib.Core.Path.{ap}
+use lib.Dec.{eqb}
+use Rattle.tables.specs.Seek.{passesOne}
+use borrow.Author.Needs.{needs}
+use Rattle.tables.proofs.passes_one.Statement.{statement}
+use Rattle.tables.proofs.passes_one.Tie as tie
+use Rattle.tables.proofs.passes_one.Reads as reads
+use Rattle.tables.proofs.passes_one.Lts as lts
+use Rattle.tables.proofs.turn_of.Reads as turn-of-reads
+
+-- src/lib.rt:58:20
+turn-of-requires : tie.Need-turn-of-requires
+turn-of-requires c κs = search needs
+
+-- src/lib.rt:58:13
+returns : tie.Need-returns
+unfolding passesOne
+returns c = rw (eq-eqb _ _ (c .before .before .if1 .taken), eq-eqb _ _ (c .before .if2 .taken)) (ap (λ n. eqb n 2) (c .turn-of .ensures))
+
+-- src/lib.rt:60:9
+returns-2 : tie.Need-returns-2
+unfolding passesOne
+returns-2 c = rw (eq-eqb _ _ (c .before .if1 .taken), ne-eqb _ _ (c .if2 .left))
+
+-- src/lib.rt:64:13
+returns-3 : tie.Need-returns-3
+unfolding passesOne
+returns-3 c = rw (ne-eqb _ _ (c .before .before .if1 .left), eq-eqb _ _ (c .before .if3 .taken), eq-eqb _ _ (c .if4 .taken))
+
+-- src/lib.rt:66:9
+returns-4 : tie.Need-returns-4
+unfolding passesOne
+returns-4 c = rw (ne-eqb _ _ (c .before .before .before .if1 .left), eq-eqb _ _ (c .before .before .if3 .taken), ne-eqb _ _ (c .before .if4 .left))
+
+-- src/lib.rt:70:13
+returns-5 : tie.Need-returns-5
+unfolding passesOne
+returns-5 c = rw (ne-eqb _ _ (c .before .before .before .if1 .left), ne-eqb _ _ (c .before .before .if3 .left), eq-eqb _ _ (c .before .if5 .taken), eq-eqb _ _ (c .if6 .taken))
+
+-- src/lib.rt:72:9
+returns-6 : tie.Need-returns-6
+unfolding passesOne
+returns-6 c = rw (ne-eqb _ _ (c .before .before .before .before .if1 .left), ne-eqb _ _ (c .before .before .before .if3 .left), eq-eqb _ _ (c .before .before .if5 .taken), ne-eqb _ _ (c .before .if6 .left))
+
+-- src/lib.rt:76:13
+returns-7 : tie.Need-returns-7
+unfolding passesOne
+returns-7 c = rw (ne-eqb _ _ (c .before .before .before .before .if1 .left), ne-eqb _ _ (c .before .before .before .if3 .left), ne-eqb _ _ (c .before .before .if5 .left), eq-eqb _ _ (c .before .if7 .taken), eq-eqb _ _ (c .if8 .taken))
+
+-- src/lib.rt:78:9
+returns-8 : tie.Need-returns-8
+unfolding passesOne
+returns-8 c = rw (ne-eqb _ _ (c .before .before .before .before .before .if1 .left), ne-eqb _ _ (c .before .before .before .before .if3 .left), ne-eqb _ _ (c .before .before .before .if5 .left), eq-eqb _ _ (c .before .before .if7 .taken), ne-eqb _ _ (c .before .if8 .left))
+
+-- src/lib.rt:52:1
+returns-9 : tie.Need-returns-9
+unfolding passesOne
+returns-9 c = rw (ne-eqb _ _ (c .before .before .before .if1 .left), ne-eqb _ _ (c .before .before .if3 .left), ne-eqb _ _ (c .before .if5 .left), ne-eqb _ _ (c .if7 .left))
+
+pub passes-one-spec : {M : Type 1} → statement M
+passes-one-spec =
+    tie.close
+    (tie.spec
+    turn-of-requires
+    returns
+    returns-2
+    returns-3
+    returns-4
+    returns-5
+    returns-6
+    returns-7
+    returns-8
+    returns-9)

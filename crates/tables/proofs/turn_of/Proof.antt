@@ -1,0 +1,45 @@
+use borrow.Author.Tests.{lt-ltb, le-ltb}
+use Rattle.meaning.specs.Places.{order}
+use Rattle.tables.proofs.turn_of.Statement.{statement}
+use Rattle.tables.proofs.turn_of.Tie as tie
+use Rattle.tables.proofs.turn_of.Reads as reads
+use Rattle.tables.proofs.turn_of.Lts as lts
+
+-- src/lib.rt:31:9
+returns : tie.Need-returns
+unfolding order
+returns c = rw (lt-ltb _ _ (c .if1 .taken), order)
+
+-- src/lib.rt:34:9
+returns-2 : tie.Need-returns-2
+unfolding order
+returns-2 c = rw (le-ltb _ _ (c .before .before .if1 .left), lt-ltb _ _ (c .if2 .taken), order)
+
+-- src/lib.rt:37:9
+returns-3 : tie.Need-returns-3
+unfolding order
+returns-3 c = rw (le-ltb _ _ (c .before .before .before .before .if1 .left), le-ltb _ _ (c .before .before .if2 .left), lt-ltb _ _ (c .if3 .taken), order)
+
+-- src/lib.rt:40:9
+returns-4 : tie.Need-returns-4
+unfolding order
+returns-4 c = rw (le-ltb _ _ (c .before .before .before .before .before .before .if1 .left), le-ltb _ _ (c .before .before .before .before .if2 .left), le-ltb _ _ (c .before .before .if3 .left), lt-ltb _ _ (c .if4 .taken), order)
+
+-- src/lib.rt:43:9
+returns-5 : tie.Need-returns-5
+unfolding order
+returns-5 c = rw (le-ltb _ _ (c .before .before .before .before .before .before .before .before .if1 .left), le-ltb _ _ (c .before .before .before .before .before .before .if2 .left), le-ltb _ _ (c .before .before .before .before .if3 .left), le-ltb _ _ (c .before .before .if4 .left), lt-ltb _ _ (c .if5 .taken), order)
+
+-- src/lib.rt:46:9
+returns-6 : tie.Need-returns-6
+unfolding order
+returns-6 c = rw (le-ltb _ _ (c .before .before .before .before .before .before .before .before .before .before .if1 .left), le-ltb _ _ (c .before .before .before .before .before .before .before .before .if2 .left), le-ltb _ _ (c .before .before .before .before .before .before .if3 .left), le-ltb _ _ (c .before .before .before .before .if4 .left), le-ltb _ _ (c .before .before .if5 .left), lt-ltb _ _ (c .if6 .taken), order)
+
+-- src/lib.rt:27:1
+returns-7 : tie.Need-returns-7
+unfolding order
+returns-7 c = rw (le-ltb _ _ (c .before .before .before .before .before .before .before .before .before .before .if1 .left), le-ltb _ _ (c .before .before .before .before .before .before .before .before .if2 .left), le-ltb _ _ (c .before .before .before .before .before .before .if3 .left), le-ltb _ _ (c .before .before .before .before .if4 .left), le-ltb _ _ (c .before .before .if5 .left), le-ltb _ _ (c .if6 .left), order)
+
+pub turn-of-spec : {M : Type 1} → statement M
+turn-of-spec =
+    tie.close (tie.spec returns returns-2 returns-3 returns-4 returns-5 returns-6 returns-7)

@@ -1,0 +1,4 @@
+pub mod Words
+pub mod Seek
+pub mod Finds
+pub mod Standing

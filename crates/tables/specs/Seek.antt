@@ -1,0 +1,75 @@
+-- Searching the rows on their words: which rows are gone over, where the search stops, and whether what was looked for stands there.
+-- Assumes nothing: these are definitions.
+use Prim.Native.Nat.{ℕ, _+_, _*_, _≤_}
+use mathlib.Core.Bool.{Bool, true, false, cond, not}
+use mathlib.Core.List.{List, [], _∷_}
+use lib.Dec.{ltb, eqb}
+use lib.ListN.{length, getD, take, drop}
+use Rattle.meaning.specs.Places.{Turn, before, equal, beyond, order}
+use Rattle.tables.specs.Words.{depthIn, sideIn, marksAt, valuesAt}
+use Rattle.tables.specs.declared.Stop.{Stop}
+use Rattle.tables.specs.declared.Want.{Want}
+
+-- a key's three words, or an element's id and two more
+pub record Three : Type 0 where
+  pub hi : ℕ
+  pub lo : ℕ
+  pub len : ℕ
+
+abbrev pub three : List ℕ → Three
+three ks = record { hi = getD ks 0 0; lo = getD ks 1 0; len = getD ks 2 0 }
+
+-- the words of row n
+abbrev pub threeAt : List ℕ → ℕ → Three
+threeAt keys n = record { hi = getD keys (3 * n) 0; lo = getD keys (3 * n + 1) 0; len = getD keys (3 * n + 2) 0 }
+
+-- what is looked for, beside the key k
+abbrev pub turn : Want → Three → Turn
+turn w k = order (w .hi ∷ w .lo ∷ w .len ∷ []) (k .hi ∷ k .lo ∷ k .len ∷ [])
+
+abbrev pub turnNumber : Turn → ℕ
+turnNumber before = 0
+turnNumber equal = 1
+turnNumber beyond = 2
+
+-- of the rows of the depth that is looked at, those that are gone over: by kind, under a map (side 0) or a list
+unfoldable pub passesOne : Want → ℕ → Three → Bool
+passesOne w s k =
+    cond (eqb (w .kind) 0) (cond (eqb s 0) (eqb (turnNumber (turn w k)) 2) false)
+    (cond (eqb (w .kind) 1) (cond (eqb s 0) true (not (eqb (w .hi) (k .hi))))
+    (cond (eqb (w .kind) 2) (cond (eqb s 0) false (ltb (w .hi) (k .hi)))
+    (cond (eqb (w .kind) 3) (cond (eqb s 0) true (ltb (w .hi) (k .hi))) false)))
+
+-- deeper rows hang under one that was gone over
+unfoldable pub goesOver : Want → ℕ → Three → Bool
+goesOver w h k = cond (ltb (w .depth) (depthIn h)) true (cond (eqb (depthIn h) (w .depth)) (passesOne w (sideIn h) k) false)
+
+-- the row that is looked for: a key, or an element
+unfoldable pub isWanted : Want → ℕ → Three → Bool
+isWanted w h k =
+    cond (eqb (depthIn h) (w .depth))
+    (cond (eqb (w .kind) 0) (cond (eqb (sideIn h) 0) (eqb (turnNumber (turn w k)) 1) false)
+    (cond (eqb (w .kind) 1) (cond (eqb (sideIn h) 0) false (eqb (w .hi) (k .hi))) false))
+    false
+
+-- one row further
+abbrev pub further : Stop → ℕ → Stop
+further s h = record { row = s .row + 1; mark = s .mark + marksAt h; value = s .value + valuesAt h }
+
+-- where the search through these heads and keys stops, which begin at s
+unfoldable pub seekWords : Want → List ℕ → List ℕ → Stop → Stop
+seekWords w [] ks s = s
+seekWords w (h ∷ hs) ks s = elim (goesOver w h (three ks)) [ true ↦ seekWords w hs (drop 3 ks) (further s h) | false ↦ s ]
+
+-- there are so many rows, and the search begins at one of them or behind the last; no sum of counts is too large
+pub record Searches (heads keys : List ℕ) (rows : ℕ) (s : Stop) : Type 0 where
+  pub in-heads : rows ≤ length heads
+  pub in-keys : 3 * rows ≤ length keys
+  pub few : rows ≤ 1024
+  pub begins : s .row ≤ rows
+  pub marks : s .mark ≤ 2048 * s .row
+  pub values : s .value ≤ 512 * s .row
+
+-- in tables with this many rows
+abbrev pub sought : Want → List ℕ → List ℕ → ℕ → Stop → Stop
+sought w heads keys rows s = seekWords w (drop (s .row) (take rows heads)) (drop (3 * s .row) keys) s

@@ -1,0 +1,139 @@
+// The document's tables in lent memory, and the single steps over them.
+// Rows stand in the sheet's order. `heads` has a word a row: depth, side, flags, and how many marks and values the row has; `keys` three words
+// a row; `marks` the ids that mark the rows, row after row; `values` six words a value, row after row.
+ghost use mathlib.Core.Path.{_≡_};
+ghost use Prim.Native.Nat.{_+_, _*_, _-_, _≤_, _<_};
+ghost use lib.ListN.{length};
+ghost use Rattle.tables.specs.Seek.{turn, turnNumber, passesOne, goesOver, isWanted, Searches, sought};
+
+// A place in the tables: a row, and how many marks and values the rows before it have.
+pub struct Stop {
+    pub row: usize,
+    pub mark: usize,
+    pub value: usize,
+}
+
+// What is looked for among the rows of a depth: a key by its three words (kind 0), an element by its id (1), the seat of a new element (2; from the
+// head 3), or the end of what hangs there (4).
+pub struct Want {
+    pub kind: u64,
+    pub depth: u64,
+    pub hi: u64,
+    pub lo: u64,
+    pub len: u64,
+}
+
+// The key that is looked for, beside a row's: before it (0), the same (1), or beyond it (2).
+fn turn_of(w: Want, hi: u64, lo: u64, len: u64) -> u64
+    ensures { λ r. ⌜ r ≡ turnNumber (turn w (record { hi = hi; lo = lo; len = len })) ⌝ }
+{
+    if w.hi < hi {
+        return 0;
+    }
+    if hi < w.hi {
+        return 2;
+    }
+    if w.lo < lo {
+        return 0;
+    }
+    if lo < w.lo {
+        return 2;
+    }
+    if w.len < len {
+        return 0;
+    }
+    if len < w.len {
+        return 2;
+    }
+    1
+}
+
+// Of the rows of the depth that is looked at, those that are gone over.
+fn passes_one(w: Want, side: u64, hi: u64, lo: u64, len: u64) -> bool
+    ensures { λ r. ⌜ r ≡ passesOne w side (record { hi = hi; lo = lo; len = len }) ⌝ }
+{
+    let kind = w.kind;
+    if kind == 0 {
+        if side == 0 {
+            return turn_of(w, hi, lo, len) == 2;
+        }
+        return false;
+    }
+    if kind == 1 {
+        if side == 0 {
+            return true;
+        }
+        return w.hi != hi;
+    }
+    if kind == 2 {
+        if side == 0 {
+            return false;
+        }
+        return w.hi < hi;
+    }
+    if kind == 3 {
+        if side == 0 {
+            return true;
+        }
+        return w.hi < hi;
+    }
+    false
+}
+
+fn goes_over(w: Want, h: u64, hi: u64, lo: u64, len: u64) -> bool
+    ensures { λ r. ⌜ r ≡ goesOver w h (record { hi = hi; lo = lo; len = len }) ⌝ }
+{
+    let d = h % 16;
+    if w.depth < d {
+        return true;
+    }
+    if d == w.depth {
+        return passes_one(w, h / 16 % 2, hi, lo, len);
+    }
+    false
+}
+
+// Whether a row is the one that is looked for.
+pub fn is_wanted(w: Want, h: u64, hi: u64, lo: u64, len: u64) -> bool
+    ensures { λ r. ⌜ r ≡ isWanted w h (record { hi = hi; lo = lo; len = len }) ⌝ }
+{
+    if h % 16 != w.depth {
+        return false;
+    }
+    let kind = w.kind;
+    let side = h / 16 % 2;
+    if kind == 0 {
+        if side == 0 {
+            return turn_of(w, hi, lo, len) == 1;
+        }
+        return false;
+    }
+    if kind == 1 {
+        if side == 0 {
+            return false;
+        }
+        return w.hi == hi;
+    }
+    false
+}
+
+// Where the search from a place on stops: before the first row that isn't gone over.
+pub fn seek(heads: &[u64], keys: &[u64], rows: usize, from: Stop, w: Want) -> Stop
+    requires { ⌜ Searches (now heads) (now keys) rows from ⌝ }
+    ensures { λ r. ⌜ r ≡ sought w (now (heads .entry)) (now (keys .entry)) rows from ⌝ }
+{
+    let mut at = from;
+    while at.row < rows {
+        let row = at.row;
+        let h = heads[row];
+        if !goes_over(w, h, keys[3 * row], keys[3 * row + 1], keys[3 * row + 2]) {
+            return at;
+        }
+        at = Stop {
+            row: row + 1,
+            mark: at.mark + (h / 128 % 2048) as usize,
+            value: at.value + (h / 262144 % 512) as usize,
+        };
+    }
+    at
+}

@@ -1,0 +1,5 @@
+pub mod Over
+pub mod Moves
+pub mod Rows
+pub mod Flat
+pub mod Tables

@@ -1,0 +1,96 @@
+-- `words::keep_marks` meets its contract: i marks have been tried. Assumes nothing.
+use Prim.Native.Nat.{_+_, _-_, _≤_}
+use mathlib.Core.Path.{sym, ap, _∙_}
+use mathlib.Core.Bool.{not}
+use mathlib.Core.Logic.{⊎-elim}
+use native.Mathlib.Omega.{arith}
+use borrow.Author.Needs.{needs}
+use Rattle.meaning.specs.Ids.{uncovered}
+use Rattle.words.proofs.Rows.{Keeping, keeping-start, keeping-mark, keeping-no, keeping-marks}
+use Rattle.words.proofs.keep_marks.Statement.{statement}
+use Rattle.words.proofs.keep_marks.Tie as tie
+
+abbrev Inv-loop : tie.InvT-loop
+Inv-loop t₀ from n to deps i₀ w₀ t i w = (i ≤ n) × Keeping 1 (uncovered deps) from to i w t₀ t
+
+abbrev μ-loop : tie.MeasureT-loop
+μ-loop t₀ from n to deps i₀ w₀ t i w = n - i
+
+loop-holds : tie.Need-loop-holds Inv-loop μ-loop
+loop-holds c = (omega arith, keeping-start _ _ _ _ _)
+
+add-x : tie.Need-add-x Inv-loop μ-loop
+add-x c = omega arith
+
+mul-x : tie.Need-mul-x Inv-loop μ-loop
+mul-x c = omega arith
+
+slice-read-x : tie.Need-slice-read-x Inv-loop μ-loop
+slice-read-x c = omega arith
+
+covers-requires : tie.Need-covers-requires Inv-loop μ-loop
+covers-requires c κs = search needs
+
+mul-t : tie.Need-mul-t Inv-loop μ-loop
+mul-t c = omega arith
+
+slice-write-t : tie.Need-slice-write-t Inv-loop μ-loop
+slice-write-t c = omega arith
+
+add-w : tie.Need-add-w Inv-loop μ-loop
+add-w c = omega arith
+
+add-i : tie.Need-add-i Inv-loop μ-loop
+add-i c = omega arith
+
+loop-less : tie.Need-loop-less Inv-loop μ-loop
+loop-less c = omega arith
+
+loop-again : tie.Need-loop-again Inv-loop μ-loop
+loop-again c =
+    let a = c .before .before .before .before .before .before .before .before in
+    let l = c .before .before .before .before .before .loop in
+    let p = uncovered (a .args .d .at) in
+    let at = a .args .from + l .i in
+    ⊎-elim
+    (λ s. (
+      omega arith,
+      rw (s .1, s .2) (keeping-mark p (a .args .from) (a .args .to) (l .i) (l .w) at (a .args .t .now) (l .t)
+          (a .pre .0) (omega arith) (omega arith) (l .inv .1) (ap not (sym (c .before .covers .ensures)) ∙ s .0 .taken)),
+    ))
+    (λ s. (
+      omega arith,
+      rw (s .1, s .2) (keeping-no 1 p (a .args .from) (a .args .to) (l .i) (l .w) at (a .args .t .now) (l .t)
+          (a .pre .0) (omega arith) (omega arith) (l .inv .1) (ap not (sym (c .before .covers .ensures)) ∙ s .0 .left)),
+    ))
+    (c .if1 .came)
+
+same-length : tie.Need-same-length Inv-loop μ-loop
+same-length c = c .before .loop .inv .1 .len
+
+returns : tie.Need-returns Inv-loop μ-loop
+returns c =
+    let a = c .before .before .before .before in
+    let l = c .before .loop in
+    keeping-marks (uncovered (a .args .d .at)) (a .args .from) (a .args .to) (l .i) (a .args .n) (l .w) (a .args .t .now) (l .t)
+    (a .pre .1) (omega arith) (l .inv .1)
+
+pub keep-marks-spec : {M : Type 1} → statement M
+keep-marks-spec =
+    tie.close
+    (tie.spec
+    Inv-loop
+    μ-loop
+    loop-holds
+    add-x
+    mul-x
+    slice-read-x
+    covers-requires
+    mul-t
+    slice-write-t
+    add-w
+    add-i
+    loop-less
+    loop-again
+    same-length
+    returns)

@@ -1,0 +1,72 @@
+-- `words::open` meets its contract: the words from i on have been moved up. Assumes nothing.
+use Prim.Native.Nat.{_-_, _≤_}
+use mathlib.Core.Path.{_≡_}
+use native.Mathlib.Omega.{arith}
+use Rattle.words.proofs.Moves.{Opening, opening-start, opening-step}
+use Rattle.words.proofs.open.Statement.{statement}
+use Rattle.words.proofs.open.Tie as tie
+
+abbrev Inv-loop : tie.InvT-loop
+Inv-loop t₀ live at n i₀ t i = (at ≤ i) × (i ≤ live) × Opening live n i t₀ t
+
+abbrev μ-loop : tie.MeasureT-loop
+μ-loop t₀ live at n i₀ t i = i
+
+loop-holds : tie.Need-loop-holds Inv-loop μ-loop
+loop-holds c = (omega arith, omega arith, opening-start (c .args .live) (c .args .n) (c .args .t .now))
+
+sub-i : tie.Need-sub-i Inv-loop μ-loop
+sub-i c = omega arith
+
+mul-x : tie.Need-mul-x Inv-loop μ-loop
+mul-x c = omega arith
+
+slice-read-x : tie.Need-slice-read-x Inv-loop μ-loop
+slice-read-x c = omega arith
+
+add-t : tie.Need-add-t Inv-loop μ-loop
+add-t c = omega arith
+
+mul-t : tie.Need-mul-t Inv-loop μ-loop
+mul-t c = omega arith
+
+slice-write-t : tie.Need-slice-write-t Inv-loop μ-loop
+slice-write-t c = omega arith
+
+loop-less : tie.Need-loop-less Inv-loop μ-loop
+loop-less c = omega arith
+
+loop-again : tie.Need-loop-again Inv-loop μ-loop
+loop-again c =
+    let a = c .before .before .before in
+    let l = c .before .before .loop in (
+      omega arith,
+      omega arith,
+      opening-step (a .args .live) (a .args .n) (l .i - 1) (a .args .t .now) (a .pre .1) (omega arith) (l .i) (l .t) (omega arith) (l .inv .2),
+    )
+
+same-length : tie.Need-same-length Inv-loop μ-loop
+same-length c = c .before .loop .inv .2 .len
+
+returns : tie.Need-returns Inv-loop μ-loop
+returns c =
+    let e : c .before .loop .i ≡ c .before .before .args .at = omega arith in
+    rw e at (c .before .loop .inv .2 .is)
+
+pub open-spec : {M : Type 1} → statement M
+open-spec =
+    tie.close
+    (tie.spec
+    Inv-loop
+    μ-loop
+    loop-holds
+    sub-i
+    mul-x
+    slice-read-x
+    add-t
+    mul-t
+    slice-write-t
+    loop-less
+    loop-again
+    same-length
+    returns)

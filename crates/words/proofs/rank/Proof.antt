@@ -1,0 +1,68 @@
+-- `words::rank` meets its contract: the first i marks are smaller. Assumes nothing.
+use Prim.Native.Nat.{_+_, _-_}
+use native.Mathlib.Omega.{arith}
+use Rattle.words.proofs.Rows.{Ranking, ranking-start, ranking-stops, ranking-goes, ranking-ends, ranked-marks}
+use Rattle.words.proofs.rank.Statement.{statement}
+use Rattle.words.proofs.rank.Tie as tie
+
+abbrev Inv-loop : tie.InvT-loop
+Inv-loop t from n id i₀ i = Ranking 1 id from n i t
+
+abbrev μ-loop : tie.MeasureT-loop
+μ-loop t from n id i₀ i = n - i
+
+loop-holds : tie.Need-loop-holds Inv-loop μ-loop
+loop-holds c = ranking-start _ _ _ _ _
+
+add-if1 : tie.Need-add-if1 Inv-loop μ-loop
+add-if1 c = omega arith
+
+mul-if1 : tie.Need-mul-if1 Inv-loop μ-loop
+mul-if1 c = omega arith
+
+shared-slice-read-if1 : tie.Need-shared-slice-read-if1 Inv-loop μ-loop
+shared-slice-read-if1 c = omega arith
+
+returns : tie.Need-returns Inv-loop μ-loop
+returns c =
+    let a = c .before .before .before .before in
+    let l = c .before .before .before .loop in
+    ranked-marks (a .args .id) (a .args .from) (a .args .n) (l .i) (a .args .t .now) (a .pre)
+    (ranking-stops 1 (a .args .id) (a .args .from) (a .args .n) (l .i) (a .args .from + l .i) (a .args .t .now) (omega arith) (omega arith) (l .inv)
+    (c .if1 .taken))
+
+add-i : tie.Need-add-i Inv-loop μ-loop
+add-i c = omega arith
+
+loop-less : tie.Need-loop-less Inv-loop μ-loop
+loop-less c = omega arith
+
+loop-again : tie.Need-loop-again Inv-loop μ-loop
+loop-again c =
+    let a = c .before .before .before .before in
+    let l = c .before .before .before .loop in
+    ranking-goes 1 (a .args .id) (a .args .from) (a .args .n) (l .i) (a .args .from + l .i) (a .args .t .now) (omega arith) (omega arith) (l .inv)
+    (c .if1 .left)
+
+returns-2 : tie.Need-returns-2 Inv-loop μ-loop
+returns-2 c =
+    let a = c .before .before in
+    let l = c .before .loop in
+    ranked-marks (a .args .id) (a .args .from) (a .args .n) (a .args .n) (a .args .t .now) (a .pre)
+    (ranking-ends 1 (a .args .id) (a .args .from) (a .args .n) (l .i) (a .args .t .now) (c .loop-test .left) (l .inv))
+
+pub rank-spec : {M : Type 1} → statement M
+rank-spec =
+    tie.close
+    (tie.spec
+    Inv-loop
+    μ-loop
+    loop-holds
+    add-if1
+    mul-if1
+    shared-slice-read-if1
+    returns
+    add-i
+    loop-less
+    loop-again
+    returns-2)

@@ -1,0 +1,5 @@
+pub mod Over
+pub mod Hex
+pub mod Texts
+pub mod Commas
+pub mod Plain

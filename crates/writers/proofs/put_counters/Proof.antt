@@ -1,0 +1,85 @@
+-- `writers::put_counters` meets its contract. The loop's invariant, `Counting`: the counters before number i are written.
+-- Assumes nothing.
+use Prim.Native.Nat.{_-_}
+use native.Mathlib.Omega.{arith}
+use mathlib.Core.Path.{refl}
+use Rattle.meaning.specs.Ascii.{ascii}
+use Rattle.meaning.specs.Text.{decimal}
+use Rattle.writers.proofs.Over.{first-room, first, room, next, same-long}
+use Rattle.writers.proofs.Commas.{counters-text, Counting, counting-first, comes, counting-more, counted}
+use borrow.Author.Needs.{needs}
+use Rattle.writers.proofs.put_counters.Statement.{statement}
+use Rattle.writers.proofs.put_counters.Tie as tie
+
+abbrev Inv-loop : tie.InvT-loop
+Inv-loop buf₀ t c n₀ i₀ t7 buf n i = Counting c buf₀ n₀ buf n i
+
+abbrev μ-loop : tie.MeasureT-loop
+μ-loop buf₀ t c n₀ i₀ t7 buf n i = 8 - i
+
+array-read-wide : tie.Need-array-read-wide Inv-loop μ-loop
+array-read-wide c = search needs
+
+wide-requires : tie.Need-wide-requires Inv-loop μ-loop
+wide-requires c κs = search needs
+
+put-decimal-requires : tie.Need-put-decimal-requires Inv-loop μ-loop
+put-decimal-requires c κs = (c .before .before .before .before .pre .0, first-room (decimal _) _ (c .before .before .before .before .args .buf .now) (counters-text (c .before .before .before .before .args .counters .at) (search needs) (c .wide .ensures)) (c .before .before .before .before .pre .1))
+
+loop-holds : tie.Need-loop-holds Inv-loop μ-loop
+loop-holds c = counting-first _ _ _
+
+slice-aggregate-then-text : tie.Need-slice-aggregate-then-text Inv-loop μ-loop
+slice-aggregate-then-text c = search needs
+
+then-text-requires : tie.Need-then-text-requires Inv-loop μ-loop
+then-text-requires c κs = room (ascii ",") _ (comes (c .before .before .before .loop .inv) (search needs) (c .before .before .loop-test .taken) refl (first (c .before .before .before .before .before .before .put-decimal .ensures) (counters-text (c .before .before .before .before .before .before .before .before .before .before .before .args .counters .at) (search needs) (c .before .before .before .before .before .before .before .wide .ensures)) (c .before .before .before .before .before .before .before .before .before .before .before .pre .1)))
+
+mul-wide : tie.Need-mul-wide Inv-loop μ-loop
+mul-wide c = search needs
+
+array-read-wide-2 : tie.Need-array-read-wide-2 Inv-loop μ-loop
+array-read-wide-2 c = search needs
+
+wide-requires-2 : tie.Need-wide-requires-2 Inv-loop μ-loop
+wide-requires-2 c κs = search needs
+
+then-decimal-requires : tie.Need-then-decimal-requires Inv-loop μ-loop
+then-decimal-requires c κs = (c .before .before .before .before .before .before .before .before .before .before .before .before .before .before .before .before .pre .0, room (decimal _) _ (next (c .before .before .before .before .then-text .ensures) _ (comes (c .before .before .before .before .before .before .before .before .loop .inv) (search needs) (c .before .before .before .before .before .before .before .loop-test .taken) (c .wide2 .ensures) (first (c .before .before .before .before .before .before .before .before .before .before .before .put-decimal .ensures) (counters-text (c .before .before .before .before .before .before .before .before .before .before .before .before .before .before .before .before .args .counters .at) (search needs) (c .before .before .before .before .before .before .before .before .before .before .before .before .wide .ensures)) (c .before .before .before .before .before .before .before .before .before .before .before .before .before .before .before .before .pre .1)))))
+
+add-i : tie.Need-add-i Inv-loop μ-loop
+add-i c = search needs
+
+loop-less : tie.Need-loop-less Inv-loop μ-loop
+loop-less c = search needs
+
+loop-again : tie.Need-loop-again Inv-loop μ-loop
+loop-again c = counting-more (c .before .before .before .before .before .before .before .before .before .before .before .loop .inv) (search needs) (c .before .before .before .before .before .before .before .before .before .before .loop-test .taken) (c .before .before .before .wide2 .ensures) (c .before .before .before .before .before .before .before .then-text .ensures) (c .before .before .then-decimal .ensures)
+
+same-length : tie.Need-same-length Inv-loop μ-loop
+same-length c = same-long (c .before .loop .inv .keeps _ (first (c .before .before .before .before .put-decimal .ensures) (counters-text (c .before .before .before .before .before .before .before .before .before .args .counters .at) (search needs) (c .before .before .before .before .before .wide .ensures)) (c .before .before .before .before .before .before .before .before .before .pre .1)))
+
+returns : tie.Need-returns Inv-loop μ-loop
+returns c = counted (c .before .loop .inv) (search needs) (c .loop-test .left) (first (c .before .before .before .before .put-decimal .ensures) (counters-text (c .before .before .before .before .before .before .before .before .before .args .counters .at) (search needs) (c .before .before .before .before .before .wide .ensures)) (c .before .before .before .before .before .before .before .before .before .pre .1))
+
+pub put-counters-spec : {M : Type 1} → statement M
+put-counters-spec =
+    tie.close
+    (tie.spec
+    Inv-loop
+    μ-loop
+    array-read-wide
+    wide-requires
+    put-decimal-requires
+    loop-holds
+    slice-aggregate-then-text
+    then-text-requires
+    mul-wide
+    array-read-wide-2
+    wide-requires-2
+    then-decimal-requires
+    add-i
+    loop-less
+    loop-again
+    same-length
+    returns)

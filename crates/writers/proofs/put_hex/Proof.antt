@@ -1,0 +1,82 @@
+-- `writers::put_hex` meets its contract. The loop's invariant, `Hexing`: the first i bytes are written.
+-- Assumes nothing.
+use Prim.Native.Nat.{_-_, _*_}
+use native.Mathlib.Omega.{arith}
+use lib.ListN.{length, length-set}
+use Rattle.writers.proofs.Hex.{Hexing, hexing-none, hexing-more, hexing-all, size-hex}
+use borrow.Author.Needs.{needs}
+use Rattle.writers.proofs.put_hex.Statement.{statement}
+use Rattle.writers.proofs.put_hex.Tie as tie
+
+abbrev Inv-loop : tie.InvT-loop
+Inv-loop buf₀ words n i₀ buf i = Hexing words n buf₀ buf i
+
+abbrev μ-loop : tie.MeasureT-loop
+μ-loop buf₀ words n i₀ buf i = n - i
+
+loop-holds : tie.Need-loop-holds Inv-loop μ-loop
+loop-holds c = hexing-none _ _ _
+
+byte-of-requires : tie.Need-byte-of-requires Inv-loop μ-loop
+byte-of-requires c κs = search needs
+
+hex-digit-requires : tie.Need-hex-digit-requires Inv-loop μ-loop
+hex-digit-requires c κs = search needs
+
+mul-buf : tie.Need-mul-buf Inv-loop μ-loop
+mul-buf c = record { fits = omega (arith, size-hex (c .before .before .before .before .before .before .args .words .now) (c .before .before .before .before .before .before .args .n)) }
+
+slice-write-buf : tie.Need-slice-write-buf Inv-loop μ-loop
+slice-write-buf c = omega (arith, size-hex (c .before .before .before .before .before .before .args .words .now) (c .before .before .before .before .before .before .args .n), c .before .before .before .loop .inv .long)
+
+hex-digit-requires-2 : tie.Need-hex-digit-requires-2 Inv-loop μ-loop
+hex-digit-requires-2 c κs = search needs
+
+mul-buf-2 : tie.Need-mul-buf-2 Inv-loop μ-loop
+mul-buf-2 c = record { fits = omega (arith, size-hex (c .before .before .before .before .before .before .before .args .words .now) (c .before .before .before .before .before .before .before .args .n)) }
+
+add-buf : tie.Need-add-buf Inv-loop μ-loop
+add-buf c = record { fits = omega (arith, size-hex (c .before .before .before .before .before .before .before .args .words .now) (c .before .before .before .before .before .before .before .args .n)) }
+
+slice-write-buf-2 : tie.Need-slice-write-buf-2 Inv-loop μ-loop
+slice-write-buf-2 c = omega (arith, size-hex (c .before .before .before .before .before .before .before .args .words .now) (c .before .before .before .before .before .before .before .args .n), length-set (c .before .before .before .before .loop .buf) (2 * c .before .before .before .before .loop .i) (c .before .hex-digit .result), c .before .before .before .before .loop .inv .long)
+
+add-i : tie.Need-add-i Inv-loop μ-loop
+add-i c = search needs
+
+loop-less : tie.Need-loop-less Inv-loop μ-loop
+loop-less c = search needs
+
+loop-again : tie.Need-loop-again Inv-loop μ-loop
+loop-again c = hexing-more (c .before .before .before .before .loop .inv) (c .before .before .before .before .before .before .before .pre .1) (c .before .before .before .loop-test .taken) (c .before .before .byte-of .ensures) (c .before .hex-digit .ensures) (c .hex-digit2 .ensures)
+
+mul-result : tie.Need-mul-result Inv-loop μ-loop
+mul-result c = record { fits = omega (arith, size-hex (c .before .before .before .before .args .words .now) (c .before .before .before .before .args .n), c .before .loop .inv .most) }
+
+same-length : tie.Need-same-length Inv-loop μ-loop
+same-length c = c .before .loop .inv .long
+
+returns : tie.Need-returns Inv-loop μ-loop
+returns c = hexing-all (c .before .loop .inv) (c .loop-test .left)
+
+pub put-hex-spec : {M : Type 1} → statement M
+put-hex-spec =
+    tie.close
+    (tie.spec
+    Inv-loop
+    μ-loop
+    loop-holds
+    byte-of-requires
+    hex-digit-requires
+    mul-buf
+    slice-write-buf
+    hex-digit-requires-2
+    mul-buf-2
+    add-buf
+    slice-write-buf-2
+    add-i
+    loop-less
+    loop-again
+    mul-result
+    same-length
+    returns)

@@ -1,0 +1,155 @@
+-- `writers::put_plain` meets its contract.
+-- Assumes nothing.
+use native.Mathlib.Omega.{arith}
+use mathlib.Core.Path.{sym}
+use Rattle.meaning.specs.Ascii.{ascii}
+use Rattle.writers.proofs.Over.{wrote-as, first-room, first, last-room, last}
+use Rattle.writers.proofs.Plain.{null-text, true-text, false-text, nonneg-text, neg-text, string-text, neg-bound, string-bound}
+use borrow.Author.Needs.{needs}
+use Rattle.writers.proofs.put_plain.Statement.{statement}
+use Rattle.writers.proofs.put_plain.Tie as tie
+
+enum-told : tie.Need-enum-told
+enum-told c = search needs
+
+slice-aggregate-put-text : tie.Need-slice-aggregate-put-text
+slice-aggregate-put-text c = search needs
+
+put-text-requires : tie.Need-put-text-requires
+put-text-requires c κs = first-room (ascii "n") _ (c .before .before .before .before .before .args .buf .now) (null-text _ (c .before .before .enum-told .given .1)) (c .before .before .before .before .before .pre .2)
+
+enum-told-2 : tie.Need-enum-told-2
+enum-told-2 c = search needs
+
+slice-aggregate-put-text-2 : tie.Need-slice-aggregate-put-text-2
+slice-aggregate-put-text-2 c = search needs
+
+put-text-requires-2 : tie.Need-put-text-requires-2
+put-text-requires-2 c κs = first-room (ascii "t") _ (c .before .before .before .before .before .args .buf .now) (true-text _ (c .before .before .enum-told2 .given .1)) (c .before .before .before .before .before .pre .2)
+
+enum-told-3 : tie.Need-enum-told-3
+enum-told-3 c = search needs
+
+slice-aggregate-put-text-3 : tie.Need-slice-aggregate-put-text-3
+slice-aggregate-put-text-3 c = search needs
+
+put-text-requires-3 : tie.Need-put-text-requires-3
+put-text-requires-3 c κs = first-room (ascii "f") _ (c .before .before .before .before .before .args .buf .now) (false-text _ (c .before .before .enum-told3 .given .1)) (c .before .before .before .before .before .pre .2)
+
+enum-known-kind : tie.Need-enum-known-kind
+enum-known-kind c = search needs
+
+slice-aggregate-put-text-4 : tie.Need-slice-aggregate-put-text-4
+slice-aggregate-put-text-4 c = search needs
+
+put-text-requires-4 : tie.Need-put-text-requires-4
+put-text-requires-4 c κs = first-room (ascii "i") _ (c .before .before .before .before .before .before .args .buf .now) (nonneg-text _ (c .before .before .before .kind .given .1)) (c .before .before .before .before .before .before .pre .2)
+
+then-decimal-requires : tie.Need-then-decimal-requires
+then-decimal-requires c κs = (c .before .before .before .before .before .before .before .before .before .before .pre .0, last-room (first (c .before .before .before .put-text4 .ensures) (nonneg-text _ (c .before .before .before .before .before .before .before .kind .given .1)) (c .before .before .before .before .before .before .before .before .before .before .pre .2)))
+
+enum-known-kind-2 : tie.Need-enum-known-kind-2
+enum-known-kind-2 c = search needs
+
+slice-aggregate-put-text-5 : tie.Need-slice-aggregate-put-text-5
+slice-aggregate-put-text-5 c = search needs
+
+put-text-requires-5 : tie.Need-put-text-requires-5
+put-text-requires-5 c κs = first-room (ascii "i-") _ (c .before .before .before .before .before .before .args .buf .now) (neg-text _ (c .before .before .before .kind2 .given .1)) (c .before .before .before .before .before .before .pre .2)
+
+add-then-decimal : tie.Need-add-then-decimal
+add-then-decimal c = let b = neg-bound (c .before .before .before .before .before .before .before .kind2 .given .1) (c .before .before .before .before .before .before .before .before .before .before .pre .1) in search needs
+
+then-decimal-requires-2 : tie.Need-then-decimal-requires-2
+then-decimal-requires-2 c κs = (c .before .before .before .before .before .before .before .before .before .before .pre .0, last-room (first (c .before .before .before .put-text5 .ensures) (neg-text _ (c .before .before .before .before .before .before .before .kind2 .given .1)) (c .before .before .before .before .before .before .before .before .before .before .pre .2)))
+
+enum-known-kind-3 : tie.Need-enum-known-kind-3
+enum-known-kind-3 c = search needs
+
+slice-aggregate-put-text-6 : tie.Need-slice-aggregate-put-text-6
+slice-aggregate-put-text-6 c = search needs
+
+put-text-requires-6 : tie.Need-put-text-requires-6
+put-text-requires-6 c κs = first-room (ascii "s") _ (c .before .before .before .before .before .before .args .buf .now) (string-text _ (c .before .before .before .kind3 .given .1)) (c .before .before .before .before .before .before .pre .2)
+
+slice-aggregate-then-hex : tie.Need-slice-aggregate-then-hex
+slice-aggregate-then-hex c = search needs
+
+then-hex-requires : tie.Need-then-hex-requires
+then-hex-requires c κs = (let b = string-bound (c .before .before .before .before .before .before .before .before .kind3 .given .1) (c .before .before .before .before .before .before .before .before .before .before .before .pre .1) in omega arith, last-room (first (c .before .before .before .before .put-text6 .ensures) (string-text _ (c .before .before .before .before .before .before .before .before .kind3 .given .1)) (c .before .before .before .before .before .before .before .before .before .before .before .pre .2)))
+
+same-length : tie.Need-same-length
+same-length c = search needs
+
+returns : tie.Need-returns
+returns c = wrote-as (sym (null-text _ (c .before .before .before .before .before .enum-told .given .1))) (c .before .before .put-text .ensures)
+
+same-length-2 : tie.Need-same-length-2
+same-length-2 c = search needs
+
+returns-2 : tie.Need-returns-2
+returns-2 c = wrote-as (sym (true-text _ (c .before .before .before .before .before .enum-told2 .given .1))) (c .before .before .put-text2 .ensures)
+
+same-length-3 : tie.Need-same-length-3
+same-length-3 c = search needs
+
+returns-3 : tie.Need-returns-3
+returns-3 c = wrote-as (sym (false-text _ (c .before .before .before .before .before .enum-told3 .given .1))) (c .before .before .put-text3 .ensures)
+
+same-length-4 : tie.Need-same-length-4
+same-length-4 c = search needs
+
+returns-4 : tie.Need-returns-4
+returns-4 c = last (c .before .before .then-decimal .ensures) (first (c .before .before .before .before .before .before .put-text4 .ensures) (nonneg-text _ (c .before .before .before .before .before .before .before .before .before .before .kind .given .1)) (c .before .before .before .before .before .before .before .before .before .before .before .before .before .pre .2))
+
+same-length-5 : tie.Need-same-length-5
+same-length-5 c = search needs
+
+returns-5 : tie.Need-returns-5
+returns-5 c = last (c .before .before .then-decimal2 .ensures) (first (c .before .before .before .before .before .before .put-text5 .ensures) (neg-text _ (c .before .before .before .before .before .before .before .before .before .before .kind2 .given .1)) (c .before .before .before .before .before .before .before .before .before .before .before .before .before .pre .2))
+
+same-length-6 : tie.Need-same-length-6
+same-length-6 c = search needs
+
+returns-6 : tie.Need-returns-6
+returns-6 c = last (c .before .before .then-hex .ensures) (first (c .before .before .before .before .before .before .before .put-text6 .ensures) (string-text _ (c .before .before .before .before .before .before .before .before .before .before .before .kind3 .given .1)) (c .before .before .before .before .before .before .before .before .before .before .before .before .before .before .pre .2))
+
+pub put-plain-spec : {M : Type 1} → statement M
+put-plain-spec =
+    tie.close
+    (tie.spec
+    enum-told
+    slice-aggregate-put-text
+    put-text-requires
+    enum-told-2
+    slice-aggregate-put-text-2
+    put-text-requires-2
+    enum-told-3
+    slice-aggregate-put-text-3
+    put-text-requires-3
+    enum-known-kind
+    slice-aggregate-put-text-4
+    put-text-requires-4
+    then-decimal-requires
+    enum-known-kind-2
+    slice-aggregate-put-text-5
+    put-text-requires-5
+    add-then-decimal
+    then-decimal-requires-2
+    enum-known-kind-3
+    slice-aggregate-put-text-6
+    put-text-requires-6
+    slice-aggregate-then-hex
+    then-hex-requires
+    same-length
+    returns
+    same-length-2
+    returns-2
+    same-length-3
+    returns-3
+    same-length-4
+    returns-4
+    same-length-5
+    returns-5
+    same-length-6
+    returns-6)

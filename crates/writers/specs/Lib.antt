@@ -1,0 +1,4 @@
+pub mod Wrote
+pub mod Sized
+pub mod Words
+pub mod Held
