@@ -1,0 +1,28 @@
+-- `lines::message_head_size` meets its contract.
+-- Assumes nothing.
+use native.Mathlib.Omega.{arith}
+use lib.ListN.{length-append}
+use Rattle.writers.proofs.Texts.{sized}
+use Rattle.lines.proofs.Texts.{head-text}
+use borrow.Author.Needs.{needs}
+use Rattle.lines.proofs.message_head_size.Statement.{statement}
+use Rattle.lines.proofs.message_head_size.Tie as tie
+
+id-size-requires : tie.Need-id-size-requires
+id-size-requires c κs = search needs
+
+add-result : tie.Need-add-result
+add-result c = search needs
+
+counters-size-requires : tie.Need-counters-size-requires
+counters-size-requires c κs = search needs
+
+add-result-2 : tie.Need-add-result-2
+add-result-2 c = search needs
+
+returns : tie.Need-returns
+returns c = sized _ (head-text _ _) (simp length-append (omega (arith, c .before .id-size .ensures, c .counters-size .ensures))) (omega (arith, c .before .id-size .ensures, c .counters-size .ensures))
+
+pub message-head-size-spec : {M : Type 1} → statement M
+message-head-size-spec =
+    tie.close (tie.spec id-size-requires add-result counters-size-requires add-result-2 returns)

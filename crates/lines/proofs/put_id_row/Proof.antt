@@ -1,0 +1,28 @@
+-- `lines::put_id_row` meets its contract.
+-- Assumes nothing.
+use Rattle.meaning.specs.Text.{idText}
+use Rattle.writers.proofs.Over.{first-room, first, last-room, last}
+use Rattle.lines.proofs.Texts.{row-text}
+use borrow.Author.Needs.{needs}
+use Rattle.lines.proofs.put_id_row.Statement.{statement}
+use Rattle.lines.proofs.put_id_row.Tie as tie
+
+put-id-requires : tie.Need-put-id-requires
+put-id-requires c κs = (c .before .before .pre .0, first-room (idText _) _ (c .before .before .args .buf .now) (row-text _) (c .before .before .pre .1))
+
+slice-aggregate-then-text : tie.Need-slice-aggregate-then-text
+slice-aggregate-then-text c = search needs
+
+then-text-requires : tie.Need-then-text-requires
+then-text-requires c κs = last-room (first (c .before .before .before .before .put-id .ensures) (row-text _) (c .before .before .before .before .before .before .before .pre .1))
+
+same-length : tie.Need-same-length
+same-length c = search needs
+
+returns : tie.Need-returns
+returns c = last (c .before .before .then-text .ensures) (first (c .before .before .before .before .before .before .before .put-id .ensures) (row-text _) (c .before .before .before .before .before .before .before .before .before .before .pre .1))
+
+pub put-id-row-spec : {M : Type 1} → statement M
+put-id-row-spec =
+    tie.close
+    (tie.spec put-id-requires slice-aggregate-then-text then-text-requires same-length returns)

@@ -1,0 +1,47 @@
+-- `lines::put_place_line` meets its contract.
+-- Assumes nothing.
+use Rattle.meaning.specs.Ascii.{ascii}
+use Rattle.meaning.specs.Text.{decimal}
+use Rattle.meaning.specs.Sheet.{spotText}
+use Rattle.writers.proofs.Over.{first-room, first, room, next, last-room, last}
+use Rattle.lines.proofs.Texts.{place-text}
+use borrow.Author.Needs.{needs}
+use Rattle.lines.proofs.put_place_line.Statement.{statement}
+use Rattle.lines.proofs.put_place_line.Tie as tie
+
+slice-aggregate-put-text : tie.Need-slice-aggregate-put-text
+slice-aggregate-put-text c = search needs
+
+put-text-requires : tie.Need-put-text-requires
+put-text-requires c κs = first-room (ascii "place=") _ (c .before .before .before .args .buf .now) (place-text _ _ _ _) (c .before .before .before .pre .2)
+
+then-decimal-requires : tie.Need-then-decimal-requires
+then-decimal-requires c κs = (c .before .before .before .before .before .before .before .pre .0, room (decimal _) _ (first (c .before .before .before .put-text .ensures) (place-text _ _ _ _) (c .before .before .before .before .before .before .before .pre .2)))
+
+then-spot-requires : tie.Need-then-spot-requires
+then-spot-requires c κs = (c .before .before .before .before .before .before .before .before .before .before .before .pre .0, c .before .before .before .before .before .before .before .before .before .before .before .pre .1, room (spotText _ _) _ (next (c .before .before .before .then-decimal .ensures) _ (first (c .before .before .before .before .before .before .before .put-text .ensures) (place-text _ _ _ _) (c .before .before .before .before .before .before .before .before .before .before .before .pre .2))))
+
+slice-aggregate-then-text : tie.Need-slice-aggregate-then-text
+slice-aggregate-then-text c = search needs
+
+then-text-requires : tie.Need-then-text-requires
+then-text-requires c κs = last-room (next (c .before .before .before .before .then-spot .ensures) _ (next (c .before .before .before .before .before .before .before .before .then-decimal .ensures) _ (first (c .before .before .before .before .before .before .before .before .before .before .before .before .put-text .ensures) (place-text _ _ _ _) (c .before .before .before .before .before .before .before .before .before .before .before .before .before .before .before .before .pre .2))))
+
+same-length : tie.Need-same-length
+same-length c = search needs
+
+returns : tie.Need-returns
+returns c = last (c .before .before .then-text .ensures) (next (c .before .before .before .before .before .before .before .then-spot .ensures) _ (next (c .before .before .before .before .before .before .before .before .before .before .before .then-decimal .ensures) _ (first (c .before .before .before .before .before .before .before .before .before .before .before .before .before .before .before .put-text .ensures) (place-text _ _ _ _) (c .before .before .before .before .before .before .before .before .before .before .before .before .before .before .before .before .before .before .before .pre .2))))
+
+pub put-place-line-spec : {M : Type 1} → statement M
+put-place-line-spec =
+    tie.close
+    (tie.spec
+    slice-aggregate-put-text
+    put-text-requires
+    then-decimal-requires
+    then-spot-requires
+    slice-aggregate-then-text
+    then-text-requires
+    same-length
+    returns)

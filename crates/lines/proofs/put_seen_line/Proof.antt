@@ -1,0 +1,42 @@
+-- `lines::put_seen_line` meets its contract.
+-- Assumes nothing.
+use Rattle.meaning.specs.Ascii.{ascii}
+use Rattle.meaning.specs.Text.{countersText}
+use Rattle.writers.proofs.Over.{first-room, first, room, next, last-room, last}
+use Rattle.lines.proofs.Texts.{seen-text}
+use borrow.Author.Needs.{needs}
+use Rattle.lines.proofs.put_seen_line.Statement.{statement}
+use Rattle.lines.proofs.put_seen_line.Tie as tie
+
+slice-aggregate-put-text : tie.Need-slice-aggregate-put-text
+slice-aggregate-put-text c = search needs
+
+put-text-requires : tie.Need-put-text-requires
+put-text-requires c κs = first-room (ascii "seen=") _ (c .before .before .before .args .buf .now) (seen-text _) (c .before .before .before .pre .1)
+
+then-counters-requires : tie.Need-then-counters-requires
+then-counters-requires c κs = (c .before .before .before .before .before .before .before .pre .0, room (countersText _) _ (first (c .before .before .before .put-text .ensures) (seen-text _) (c .before .before .before .before .before .before .before .pre .1)))
+
+slice-aggregate-then-text : tie.Need-slice-aggregate-then-text
+slice-aggregate-then-text c = search needs
+
+then-text-requires : tie.Need-then-text-requires
+then-text-requires c κs = last-room (next (c .before .before .before .before .then-counters .ensures) _ (first (c .before .before .before .before .before .before .before .before .put-text .ensures) (seen-text _) (c .before .before .before .before .before .before .before .before .before .before .before .before .pre .1)))
+
+same-length : tie.Need-same-length
+same-length c = search needs
+
+returns : tie.Need-returns
+returns c = last (c .before .before .then-text .ensures) (next (c .before .before .before .before .before .before .before .then-counters .ensures) _ (first (c .before .before .before .before .before .before .before .before .before .before .before .put-text .ensures) (seen-text _) (c .before .before .before .before .before .before .before .before .before .before .before .before .before .before .before .pre .1)))
+
+pub put-seen-line-spec : {M : Type 1} → statement M
+put-seen-line-spec =
+    tie.close
+    (tie.spec
+    slice-aggregate-put-text
+    put-text-requires
+    then-counters-requires
+    slice-aggregate-then-text
+    then-text-requires
+    same-length
+    returns)

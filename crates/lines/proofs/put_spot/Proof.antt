@@ -1,0 +1,75 @@
+-- `lines::put_spot` meets its contract.
+-- Assumes nothing.
+use native.Mathlib.Omega.{arith}
+use mathlib.Core.List.{[], _∷_}
+use Rattle.meaning.specs.Ascii.{byte}
+use Rattle.writers.proofs.Over.{first-room, first, last-room, last}
+use Rattle.lines.proofs.Spots.{key-spot, element-spot, key-short}
+use borrow.Author.Needs.{needs}
+use Rattle.lines.proofs.put_spot.Statement.{statement}
+use Rattle.lines.proofs.put_spot.Tie as tie
+
+enum-known-spot : tie.Need-enum-known-spot
+enum-known-spot c = search needs
+
+flag-requires : tie.Need-flag-requires
+flag-requires c κs = search needs
+
+slice-aggregate-put-text : tie.Need-slice-aggregate-put-text
+slice-aggregate-put-text c = search needs
+
+put-text-requires : tie.Need-put-text-requires
+put-text-requires c κs = first-room (byte "{" ∷ _ ∷ []) _ (c .before .before .before .before .before .before .before .args .buf .now) (key-spot (c .before .before .flag .ensures) (c .before .before .before .before .spot .given .1)) (c .before .before .before .before .before .before .before .pre .2)
+
+slice-aggregate-then-hex : tie.Need-slice-aggregate-then-hex
+slice-aggregate-then-hex c = search needs
+
+then-hex-requires : tie.Need-then-hex-requires
+then-hex-requires c κs = (let h = key-short (c .before .before .before .before .before .before .before .before .before .spot .given .1) (c .before .before .before .before .before .before .before .before .before .before .before .before .pre .1) in omega arith, last-room (first (c .before .before .before .before .put-text .ensures) (key-spot (c .before .before .before .before .before .before .before .flag .ensures) (c .before .before .before .before .before .before .before .before .before .spot .given .1)) (c .before .before .before .before .before .before .before .before .before .before .before .before .pre .2)))
+
+enum-known-spot-2 : tie.Need-enum-known-spot-2
+enum-known-spot-2 c = search needs
+
+flag-requires-2 : tie.Need-flag-requires-2
+flag-requires-2 c κs = search needs
+
+slice-aggregate-put-text-2 : tie.Need-slice-aggregate-put-text-2
+slice-aggregate-put-text-2 c = search needs
+
+put-text-requires-2 : tie.Need-put-text-requires-2
+put-text-requires-2 c κs = first-room (byte "[" ∷ _ ∷ []) _ (c .before .before .before .before .before .before .before .args .buf .now) (element-spot (c .before .before .flag2 .ensures) (c .before .before .before .before .spot2 .given .1)) (c .before .before .before .before .before .before .before .pre .2)
+
+then-id-requires : tie.Need-then-id-requires
+then-id-requires c κs = (c .before .before .before .before .before .before .before .before .before .before .before .pre .0, last-room (first (c .before .before .before .put-text2 .ensures) (element-spot (c .before .before .before .before .before .before .flag2 .ensures) (c .before .before .before .before .before .before .before .before .spot2 .given .1)) (c .before .before .before .before .before .before .before .before .before .before .before .pre .2)))
+
+same-length : tie.Need-same-length
+same-length c = search needs
+
+returns : tie.Need-returns
+returns c = last (c .before .before .then-hex .ensures) (first (c .before .before .before .before .before .before .before .put-text .ensures) (key-spot (c .before .before .before .before .before .before .before .before .before .before .flag .ensures) (c .before .before .before .before .before .before .before .before .before .before .before .before .spot .given .1)) (c .before .before .before .before .before .before .before .before .before .before .before .before .before .before .before .pre .2))
+
+same-length-2 : tie.Need-same-length-2
+same-length-2 c = search needs
+
+returns-2 : tie.Need-returns-2
+returns-2 c = last (c .before .before .then-id .ensures) (first (c .before .before .before .before .before .before .put-text2 .ensures) (element-spot (c .before .before .before .before .before .before .before .before .before .flag2 .ensures) (c .before .before .before .before .before .before .before .before .before .before .before .spot2 .given .1)) (c .before .before .before .before .before .before .before .before .before .before .before .before .before .before .pre .2))
+
+pub put-spot-spec : {M : Type 1} → statement M
+put-spot-spec =
+    tie.close
+    (tie.spec
+    enum-known-spot
+    flag-requires
+    slice-aggregate-put-text
+    put-text-requires
+    slice-aggregate-then-hex
+    then-hex-requires
+    enum-known-spot-2
+    flag-requires-2
+    slice-aggregate-put-text-2
+    put-text-requires-2
+    then-id-requires
+    same-length
+    returns
+    same-length-2
+    returns-2)

@@ -1,0 +1,46 @@
+-- `lines::put_value_row` meets its contract.
+-- Assumes nothing.
+use Rattle.meaning.specs.Ascii.{ascii}
+use Rattle.meaning.specs.Text.{idText, plainText}
+use Rattle.writers.proofs.Over.{first-room, first, room, next, last-room, last}
+use Rattle.lines.proofs.Texts.{value-text}
+use borrow.Author.Needs.{needs}
+use Rattle.lines.proofs.put_value_row.Statement.{statement}
+use Rattle.lines.proofs.put_value_row.Tie as tie
+
+put-id-requires : tie.Need-put-id-requires
+put-id-requires c κs = (c .before .before .pre .0, first-room (idText _) _ (c .before .before .args .buf .now) (value-text _) (c .before .before .pre .2))
+
+slice-aggregate-then-text : tie.Need-slice-aggregate-then-text
+slice-aggregate-then-text c = search needs
+
+then-text-requires : tie.Need-then-text-requires
+then-text-requires c κs = room (ascii ":") _ (first (c .before .before .before .before .put-id .ensures) (value-text _) (c .before .before .before .before .before .before .before .pre .2))
+
+then-plain-requires : tie.Need-then-plain-requires
+then-plain-requires c κs = (c .before .before .before .before .before .before .before .before .before .before .before .pre .0, c .before .before .before .before .before .before .before .before .before .before .before .pre .1, room (plainText _) _ (next (c .before .before .before .then-text .ensures) _ (first (c .before .before .before .before .before .before .before .before .put-id .ensures) (value-text _) (c .before .before .before .before .before .before .before .before .before .before .before .pre .2))))
+
+slice-aggregate-then-text-2 : tie.Need-slice-aggregate-then-text-2
+slice-aggregate-then-text-2 c = search needs
+
+then-text-requires-2 : tie.Need-then-text-requires-2
+then-text-requires-2 c κs = last-room (next (c .before .before .before .before .then-plain .ensures) _ (next (c .before .before .before .before .before .before .before .before .then-text .ensures) _ (first (c .before .before .before .before .before .before .before .before .before .before .before .before .before .put-id .ensures) (value-text _) (c .before .before .before .before .before .before .before .before .before .before .before .before .before .before .before .before .pre .2))))
+
+same-length : tie.Need-same-length
+same-length c = search needs
+
+returns : tie.Need-returns
+returns c = last (c .before .before .then-text2 .ensures) (next (c .before .before .before .before .before .before .before .then-plain .ensures) _ (next (c .before .before .before .before .before .before .before .before .before .before .before .then-text .ensures) _ (first (c .before .before .before .before .before .before .before .before .before .before .before .before .before .before .before .before .put-id .ensures) (value-text _) (c .before .before .before .before .before .before .before .before .before .before .before .before .before .before .before .before .before .before .before .pre .2))))
+
+pub put-value-row-spec : {M : Type 1} → statement M
+put-value-row-spec =
+    tie.close
+    (tie.spec
+    put-id-requires
+    slice-aggregate-then-text
+    then-text-requires
+    then-plain-requires
+    slice-aggregate-then-text-2
+    then-text-requires-2
+    same-length
+    returns)

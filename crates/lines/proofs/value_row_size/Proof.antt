@@ -1,0 +1,28 @@
+-- `lines::value_row_size` meets its contract.
+-- Assumes nothing.
+use native.Mathlib.Omega.{arith}
+use lib.ListN.{length-append}
+use Rattle.writers.proofs.Texts.{sized}
+use Rattle.lines.proofs.Texts.{value-text}
+use borrow.Author.Needs.{needs}
+use Rattle.lines.proofs.value_row_size.Statement.{statement}
+use Rattle.lines.proofs.value_row_size.Tie as tie
+
+id-size-requires : tie.Need-id-size-requires
+id-size-requires c κs = search needs
+
+add-result : tie.Need-add-result
+add-result c = search needs
+
+plain-size-requires : tie.Need-plain-size-requires
+plain-size-requires c κs = search needs
+
+add-result-2 : tie.Need-add-result-2
+add-result-2 c = search needs
+
+returns : tie.Need-returns
+returns c = sized _ (value-text _) (simp length-append (omega (arith, c .before .id-size .ensures, c .plain-size .ensures))) (omega (arith, c .before .id-size .ensures, c .plain-size .ensures))
+
+pub value-row-size-spec : {M : Type 1} → statement M
+value-row-size-spec =
+    tie.close (tie.spec id-size-requires add-result plain-size-requires add-result-2 returns)

@@ -1,0 +1,6 @@
+pub mod Steps
+pub mod Trails
+pub mod Deeds
+pub mod Edits
+pub mod Messages
+pub mod Places

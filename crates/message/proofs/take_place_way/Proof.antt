@@ -1,0 +1,47 @@
+-- `message::take_place_way` meets its contract.
+-- Assumes nothing.
+use borrow.Author.Tests.{not-true, not-false}
+use Rattle.message.proofs.Places.{refused, no-way, bytes-behind, at-caret, a-place}
+use Rattle.message.proofs.take_place_way.Statement.{statement}
+use Rattle.message.proofs.take_place_way.Tie as tie
+
+powers-requires : tie.Need-powers-requires
+powers-requires c κs = tt
+
+take-way-requires : tie.Need-take-way-requires
+take-way-requires c κs = c .before .powers .ensures
+
+no-place-requires : tie.Need-no-place-requires
+no-place-requires c κs = tt
+
+returns : tie.Need-returns
+returns c = refused _ (c .no-place .result) (c .no-place .ensures) (no-way _ (c .before .before .before .take-way .result) (c .before .before .before .take-way .ensures) (not-true _ (c .before .if1 .taken)))
+
+no-place-requires-2 : tie.Need-no-place-requires-2
+no-place-requires-2 c κs = tt
+
+returns-2 : tie.Need-returns-2
+returns-2 c = refused _ (c .no-place2 .result) (c .no-place2 .ensures) (bytes-behind _ (c .before .before .before .before .before .take-way .result) (c .before .before .before .before .before .take-way .ensures) (not-false _ (c .before .before .before .if1 .left)) (c .before .if2 .taken))
+
+no-place-requires-3 : tie.Need-no-place-requires-3
+no-place-requires-3 c κs = tt
+
+returns-3 : tie.Need-returns-3
+returns-3 c = refused _ (c .no-place3 .result) (c .no-place3 .ensures) (at-caret _ (c .before .before .before .before .before .before .before .take-way .result) (c .before .before .before .before .before .before .before .take-way .ensures) (not-false _ (c .before .before .before .before .before .if1 .left)) (c .before .if3 .taken))
+
+returns-4 : tie.Need-returns-4
+returns-4 c = a-place _ (c .before .before .before .before .before .before .before .take-way .result) (c .before .before .before .before .before .before .before .take-way .ensures) (not-false _ (c .before .before .before .before .before .if1 .left)) (c .before .before .before .if2 .left) (c .before .if3 .left)
+
+pub take-place-way-spec : {M : Type 1} → statement M
+take-place-way-spec =
+    tie.close
+    (tie.spec
+    powers-requires
+    take-way-requires
+    no-place-requires
+    returns
+    no-place-requires-2
+    returns-2
+    no-place-requires-3
+    returns-3
+    returns-4)

@@ -1,0 +1,4 @@
+pub mod Means
+pub mod Steps
+pub mod Reads
+pub mod Promises
