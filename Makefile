@@ -1,14 +1,14 @@
 # The two commands of the README.
 #   make demo   proves every crate and runs the main job on an example
 #   make test   passes all tests; its last line is the gate's own, 'N passed, 0 failed'
-.PHONY: demo test setup rust-test
+.PHONY: demo test setup rust-test same
 
 demo: setup
 	rt check
 	cd rust && cargo build --release --quiet
 	rust/target/release/merge <examples/five.messages
 
-test: setup rust-test
+test: setup rust-test same
 	rt ci
 
 # what the kit's machine has already; elsewhere Debian's packages
@@ -20,3 +20,9 @@ rust-test:
 	cd rust && cargo test --release --quiet
 	cd rust && cargo build --release --quiet
 	tools/streams rust/target/release/merge
+
+# rt follows no link, so a program's input and output are copies: of the kept vectors, and of the message that bench/reads times
+same:
+	cmp vectors/layout.script crates/verdicts/stdin
+	cmp vectors/layout.answers crates/verdicts/stdout
+	cmp bench/typical.message crates/readings/stdin

@@ -51,7 +51,8 @@ turn-long x k = refl
 abbrev lengths : List ℕ → List ℕ → Turn
 lengths k j = order (length k ∷ []) (length j ∷ [])
 
--- What the words of the first m bytes say of two keys: one is ahead; or they are level, and the rests decide, or, where both end here, the lengths.
+-- What the words of the first m bytes say of two keys: one is ahead; or they are level, and the rests decide, or, where both end here,
+-- the lengths.
 data Front (m : ℕ) (k j : List ℕ) : Type 0 where
   ahead : pack m k < pack m j → order k j ≡ before → Front m k j
   behind : pack m j < pack m k → order k j ≡ beyond → Front m k j
@@ -68,7 +69,8 @@ front (suc m) [] (y ∷ j) b c = go (tri 0 (y * weight m + pack m j)) (drop m j)
     go (less p) l f = ahead p (turn-short y j)
     go (same p) [] f = ends p refl f (turn-short y j ∙ sym (turn-less 0 (length (y ∷ j)) [] [] (omega arith)))
     go (same p) (z ∷ l) f =
-        level p (turn-short y j ∙ (sym (turn-short z l) ∙ ap (order []) (sym f))) (λ e. absurd (omega (arith, length-drop m j, ap length f)))
+        level p (turn-short y j ∙ (sym (turn-short z l) ∙ ap (order []) (sym f)))
+        (λ e. absurd (omega (arith, length-drop m j, ap length f)))
     go (more p) l f = absurd (omega arith)
 front (suc m) (x ∷ k) [] b c = go (tri 0 (x * weight m + pack m k)) (drop m k) refl
   where
@@ -76,7 +78,8 @@ front (suc m) (x ∷ k) [] b c = go (tri 0 (x * weight m + pack m k)) (drop m k)
     go (less p) l f = behind p (turn-long x k)
     go (same p) [] f = ends (sym p) f refl (turn-long x k ∙ sym (turn-more (length (x ∷ k)) 0 [] [] (omega arith)))
     go (same p) (z ∷ l) f =
-        level (sym p) (turn-long x k ∙ (sym (turn-long z l) ∙ ap (λ t. order t []) (sym f))) (λ e. absurd (omega (arith, length-drop m k, ap length f)))
+        level (sym p) (turn-long x k ∙ (sym (turn-long z l) ∙ ap (λ t. order t []) (sym f)))
+        (λ e. absurd (omega (arith, length-drop m k, ap length f)))
     go (more p) l f = absurd (omega arith)
 front (suc m) (x ∷ k) (y ∷ j) b c = go (tri x y) (front m k j (b .1) (c .1))
   where
@@ -84,7 +87,8 @@ front (suc m) (x ∷ k) (y ∷ j) b c = go (tri x y) (front m k j (b .1) (c .1))
     both q (ahead p e) = ahead (let w = ap (λ n. n * weight m) q in omega arith) (turn-same x y k j q ∙ e)
     both q (behind p e) = behind (let w = ap (λ n. n * weight m) q in omega arith) (turn-same x y k j q ∙ e)
     both q (level p e f) = level (let w = ap (λ n. n * weight m) q in omega arith) (turn-same x y k j q ∙ e) (λ g. ap suc (f (omega arith)))
-    both q (ends p f g e) = ends (let w = ap (λ n. n * weight m) q in omega arith) f g (turn-same x y k j q ∙ (e ∙ longer (tri (length k) (length j))))
+    both q (ends p f g e) =
+        ends (let w = ap (λ n. n * weight m) q in omega arith) f g (turn-same x y k j q ∙ (e ∙ longer (tri (length k) (length j))))
       where
         longer : Tri (length k) (length j) → lengths k j ≡ lengths (x ∷ k) (y ∷ j)
         longer (less h) = turn-less (length k) (length j) [] [] h ∙ sym (turn-less (suc (length k)) (suc (length j)) [] [] (omega arith))
@@ -107,8 +111,10 @@ words-order k j v w = first (front 8 k j (v .bytes) (w .bytes))
   where
     second : pack 8 k ≡ pack 8 j → order k j ≡ order (drop 8 k) (drop 8 j) → (length k - 8 ≡ length j - 8 → length k ≡ length j)
         → Front 8 (drop 8 k) (drop 8 j) → order (keyWords k) (keyWords j) ≡ order k j
-    second p e g (ahead q f) = turn-same (pack 8 k) (pack 8 j) _ _ p ∙ (turn-less (pack 8 (drop 8 k)) (pack 8 (drop 8 j)) _ _ q ∙ sym (e ∙ f))
-    second p e g (behind q f) = turn-same (pack 8 k) (pack 8 j) _ _ p ∙ (turn-more (pack 8 (drop 8 k)) (pack 8 (drop 8 j)) _ _ q ∙ sym (e ∙ f))
+    second p e g (ahead q f) =
+        turn-same (pack 8 k) (pack 8 j) _ _ p ∙ (turn-less (pack 8 (drop 8 k)) (pack 8 (drop 8 j)) _ _ q ∙ sym (e ∙ f))
+    second p e g (behind q f) =
+        turn-same (pack 8 k) (pack 8 j) _ _ p ∙ (turn-more (pack 8 (drop 8 k)) (pack 8 (drop 8 j)) _ _ q ∙ sym (e ∙ f))
     second p e g (level q f h) =
         let a = length-drop 8 k in
         let b = length-drop 8 j in
@@ -123,9 +129,15 @@ words-order k j v w = first (front 8 k j (v .bytes) (w .bytes))
         ∙ (turn-same (pack 8 (drop 8 k)) (pack 8 (drop 8 j)) _ _ q ∙ (shorter (tri (length (drop 8 k)) (length (drop 8 j))) ∙ sym (e ∙ f)))
       where
         shorter : Tri (length (drop 8 k)) (length (drop 8 j)) → lengths k j ≡ lengths (drop 8 k) (drop 8 j)
-        shorter (less h) = turn-less (length k) (length j) [] [] (omega (arith, length-drop 8 k, length-drop 8 j)) ∙ sym (turn-less (length (drop 8 k)) (length (drop 8 j)) [] [] h)
-        shorter (same h) = turn-same (length k) (length j) [] [] (g (omega (arith, length-drop 8 k, length-drop 8 j))) ∙ sym (turn-same (length (drop 8 k)) (length (drop 8 j)) [] [] h)
-        shorter (more h) = turn-more (length k) (length j) [] [] (omega (arith, length-drop 8 k, length-drop 8 j)) ∙ sym (turn-more (length (drop 8 k)) (length (drop 8 j)) [] [] h)
+        shorter (less h) =
+            turn-less (length k) (length j) [] [] (omega (arith, length-drop 8 k, length-drop 8 j))
+            ∙ sym (turn-less (length (drop 8 k)) (length (drop 8 j)) [] [] h)
+        shorter (same h) =
+            turn-same (length k) (length j) [] [] (g (omega (arith, length-drop 8 k, length-drop 8 j)))
+            ∙ sym (turn-same (length (drop 8 k)) (length (drop 8 j)) [] [] h)
+        shorter (more h) =
+            turn-more (length k) (length j) [] [] (omega (arith, length-drop 8 k, length-drop 8 j))
+            ∙ sym (turn-more (length (drop 8 k)) (length (drop 8 j)) [] [] h)
 
     first : Front 8 k j → order (keyWords k) (keyWords j) ≡ order k j
     first (ahead p e) = turn-less (pack 8 k) (pack 8 j) _ _ p ∙ sym e

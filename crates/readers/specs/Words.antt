@@ -1,6 +1,6 @@
--- Keys and strings as words: eight bytes to a word, the first the greatest, and 0 for those that are missing. A key is three words, its first
--- eight bytes, the next eight, and its length. Compared word by word they stand in the order of keys: byte order, a shorter key before its
--- extension (specs/Order.antt). So the tables compare keys without looking at bytes.
+-- Keys and strings as words: eight bytes to a word, the first the greatest, and 0 for those that are missing. A key is three words, its
+-- first eight bytes, the next eight, and its length. Compared word by word they stand in the order of keys: byte order, a shorter key
+-- before its extension (specs/Order.antt). So the tables compare keys without looking at bytes.
 -- Assumes nothing: these are definitions.
 use Prim.Native.Nat.{ℕ, zero, suc, _+_, _*_}
 use mathlib.Core.List.{List, [], _∷_}

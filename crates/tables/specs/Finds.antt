@@ -1,4 +1,5 @@
--- A search through the words of rows stops where the search among the rows stops: `finds`. And the four searches of document 01's operation.
+-- A search through the words of rows stops where the search among the rows stops: `finds`. And the searches of document 01's
+-- operation.
 -- Assumes nothing.
 use Prim.Native.Nat.{ℕ, _+_, _<_}
 use native.Mathlib.Omega.{arith}
@@ -56,11 +57,13 @@ module _ (r : Row) (h : Narrow r) where
   pub values-in : valuesAt (headWord r) ≡ length (r .values)
   values-in = omega (arith, h .depth, h .marks, h .values, side-small (r .spot), bit-small (r .map), bit-small (r .list))
 
--- the place behind some rows that begin at s
+-- one row on, and the place behind some rows that begin at s
+abbrev pub past : Stop → Row → Stop
+past s r = record { row = s .row + 1; mark = s .mark + length (r .marks); value = s .value + length (r .values) }
+
 unfoldable pub after : Stop → List Row → Stop
 after s [] = s
-after s (r ∷ rs) =
-    after (record { row = s .row + 1; mark = s .mark + length (r .marks); value = s .value + length (r .values) }) rs
+after s (r ∷ rs) = after (past s r) rs
 
 -- the words of the row at the start
 three-here : (p : Spot) (ks qs : List ℕ) → three ((spotWords p ++ ks) ++ qs) ≡ three (spotWords p)
@@ -88,8 +91,7 @@ module _ (w : Want) (pass : Spot → Bool) (agrees : Agrees w pass) where
       rw (depth-in r h, side-in r h, three-here (r .spot) ks qs, agrees (r .spot) (h .spot))
       (both (ltb (w .depth) (r .depth)) (eqb (r .depth) (w .depth)) (pass (r .spot)))
 
-  further-same : (r : Row) → Narrow r → (s : Stop) → further s (headWord r)
-      ≡ record { row = s .row + 1; mark = s .mark + length (r .marks); value = s .value + length (r .values) }
+  further-same : (r : Row) → Narrow r → (s : Stop) → further s (headWord r) ≡ past s r
   further-same r h s = rw (marks-in r h, values-in r h)
 
   pub finds : (rs : List Row) → AllNarrow rs → (qs : List ℕ) (s : Stop)

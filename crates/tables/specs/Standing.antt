@@ -11,7 +11,7 @@ use Rattle.meaning.specs.Sheet.{Spot, inMap, inList, Row}
 use Rattle.rows.specs.Blocks.{passed, over}
 use Rattle.tables.specs.Words.{spotWords, headWord, headsOf, keysOf}
 use Rattle.tables.specs.Seek.{seekWords, sought}
-use Rattle.tables.specs.Finds.{AllNarrow, after, Agrees, finds}
+use Rattle.tables.specs.Finds.{AllNarrow, past, after, Agrees, finds}
 use Rattle.tables.specs.declared.Stop.{Stop}
 use Rattle.tables.specs.declared.Want.{Want}
 
@@ -30,7 +30,7 @@ after-more s (r ∷ a) b = after-more _ a b
 pub after-row : (s : Stop) (a : List Row) → after s a .row ≡ s .row + length a
 unfolding after
 after-row s [] = omega arith
-after-row s (r ∷ a) = omega (arith, after-row (record { row = s .row + 1; mark = s .mark + length (r .marks); value = s .value + length (r .values) }) a)
+after-row s (r ∷ a) = omega (arith, after-row (past s r) a)
 
 behind-row : (a : List Row) → behind a .row ≡ length a
 behind-row a = after-row first a ∙ (let z : 0 + length a ≡ length a = omega arith in z)

@@ -1,8 +1,8 @@
 -- The document's tables in lent memory: which words hold which rows.
--- Rows stand in the sheet's order. `heads` has a word a row: depth, side, flags, and how many marks and values the row has. `keys` has three
--- words a row. `marks` has the ids that mark the rows, row after row; `values` six words a value, row after row. So no word names a row by its
--- number: where a row's marks stand is how many the rows before it have, and to open a row moves nothing but rows. Behind the live words a table
--- is zeros, so equal documents have equal memory.
+-- Rows stand in the sheet's order. `heads` has a word a row: depth, side, flags, and how many marks and values the row has. `keys` has
+-- three words a row. `marks` has the ids that mark the rows, row after row; `values` six words a value, row after row. So no word names
+-- a row by its number: where a row's marks stand is how many the rows before it have, and to open a row moves nothing but rows. Behind
+-- the live words a table is zeros, so equal documents have equal memory.
 -- Assumes nothing: these are definitions.
 use Prim.Native.Nat.{ℕ, _+_, _*_, _-_, _/_, _%_}
 use mathlib.Core.Bool.{Bool, true, false}

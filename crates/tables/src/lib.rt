@@ -1,6 +1,6 @@
 // The document's tables in lent memory, and the single steps over them.
-// Rows stand in the sheet's order. `heads` has a word a row: depth, side, flags, and how many marks and values the row has; `keys` three words
-// a row; `marks` the ids that mark the rows, row after row; `values` six words a value, row after row.
+// Rows stand in the sheet's order. `heads` has a word a row: depth, side, flags, and how many marks and values the row has; `keys`
+// three words a row; `marks` the ids that mark the rows, row after row; `values` six words a value, row after row.
 ghost use mathlib.Core.Path.{_≡_};
 ghost use Prim.Native.Nat.{_+_, _*_, _-_, _≤_, _<_};
 ghost use lib.ListN.{length};
@@ -13,8 +13,8 @@ pub struct Stop {
     pub value: usize,
 }
 
-// What is looked for among the rows of a depth: a key by its three words (kind 0), an element by its id (1), the seat of a new element (2; from the
-// head 3), or the end of what hangs there (4).
+// What is looked for among the rows of a depth: a key by its three words (kind 0), an element by its id (1), the seat of a new element
+// (2; from the head 3), or the end of what hangs there (4).
 pub struct Want {
     pub kind: u64,
     pub depth: u64,

@@ -1,5 +1,5 @@
-// Answers the layout calls of a replay script (docs/REPLAY.md), read from standard input: a line for each call, its name and 0 if the block is in
-// the layout that is asked for, else 1. The gate compares what it prints with the second implementation's answers.
+// Answers the layout calls of a replay script (docs/REPLAY.md), read from standard input: a line for each call, its name and 0 if the
+// block is in the layout that is asked for, else 1. The gate compares what it prints with the second implementation's answers.
 use decimal::Number;
 use libc::STDOUT_FILENO;
 use readers::Past;
