@@ -1,15 +1,16 @@
 -- The lines of document 01 as they are written, piece by piece.
 -- Assumes nothing.
 use Prim.Native.Nat.{ℕ}
-use mathlib.Core.Path.{_≡_, refl}
+use mathlib.Core.Path.{_≡_, refl, sym}
 use mathlib.Core.Bool.{Bool}
-use mathlib.Core.List.{List, _++_, append-assoc}
+use mathlib.Core.List.{List, _∷_, _++_, append-assoc}
 use Rattle.meaning.specs.Ascii.{ascii}
 use Rattle.meaning.specs.Places.{Value}
 use Rattle.meaning.specs.Ways.{Operation}
 use Rattle.meaning.specs.Text.{decimal, idText, countersText, hex, plainText}
 use Rattle.meaning.specs.Message.{editText, message}
-use Rattle.meaning.specs.Sheet.{Spot, flagsText, spotText, seenLine, placeLine, markLine, valueLine, endLine, lineText}
+use Rattle.meaning.specs.Sheet.{Spot, flagsText, spotText, sheetLine, seenLine, placeLine, markLine, valueLine, endLine, lineText}
+use Rattle.meaning.specs.Read.{valuesText}
 use Rattle.lines.specs.Rows.{keyRow, idRow, valueRow, messageHead}
 
 pub key-text : (k : List ℕ) → keyRow k ≡ hex k ++ ascii "\n"
@@ -54,3 +55,17 @@ pub place-text : (n : ℕ) (p : Spot) (m l : Bool)
     → lineText (placeLine n p m l) ≡ ascii "place=" ++ (decimal n ++ (spotText p (flagsText m l) ++ ascii "\n"))
 unfolding lineText
 place-text n p m l = refl
+
+-- What is written one behind the other: the sheet's first line, and what a read tells.
+
+pub sheet-text : lineText sheetLine ≡ ascii "sheet=1\n"
+unfolding lineText
+sheet-text = refl
+
+pub keys-more : (k t : List ℕ) → hex k ++ (ascii "\n" ++ t) ≡ keyRow k ++ t
+unfolding keyRow
+keys-more k t = sym (append-assoc (hex k) (ascii "\n") t)
+
+pub values-more : (v : Value) (vs : List Value) → valuesText (v ∷ vs) ≡ valueRow v ++ valuesText vs
+unfolding valuesText valueRow
+values-more v vs = simp append-assoc

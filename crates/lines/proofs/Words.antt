@@ -1,9 +1,9 @@
 -- What is written of words is what was read into them: the bytes of a key or a string, packed into words, are read back.
 -- Assumes nothing.
 use Prim.Native.Nat.{ℕ, zero, suc, _+_, _-_, _*_, _/_, _%_, _^_, _≤_, _<_}
-use native.Mathlib.Nat.{pow-suc, pow-succ', mod-eq-of-lt, mod-lt, mul-add-div-right, mul-assoc, zero-div, mul-zero}
+use native.Mathlib.Nat.{pow-suc, pow-succ', mod-eq-of-lt, mod-lt, mul-add-div-right, mul-assoc, zero-div}
 use native.Mathlib.Omega.{arith}
-use mathlib.Core.Path.{_≡_, refl, sym, ap, _∙_, subst}
+use mathlib.Core.Path.{_≡_, refl, sym, ap, _∙_}
 use mathlib.Core.List.{List, [], _∷_, _++_}
 use lib.Arith.{digits-div}
 use lib.ListN.{length, take, drop, getD}
@@ -12,7 +12,6 @@ use lib.Seq.{take-suc, take-length, drop-drop, getD-drop}
 use Rattle.meaning.specs.Valid.{Bytes, ValidKey, ValidString}
 use Rattle.readers.specs.Words.{weight, pack, wordsOf}
 use Rattle.readers.specs.Order.{weight-some, pack-small}
-use Rattle.readers.proofs.Packs.{pack-nil}
 use Rattle.writers.specs.Words.{byteOf, bytesOf}
 
 weight-pow : (m : ℕ) → weight m ≡ 256 ^ m

@@ -1,6 +1,6 @@
-// The lines of a sheet, what a read writes, and a message's head, written at the start of a lent buffer. Each writer is lent the rest
-// of the buffer from the bytes already written onward, and leaves what stands behind its line untouched. The size of each is known
-// before a byte is written.
+// The lines of a sheet, what a read writes, and a message's head, written at the start of a lent buffer. Each writer is lent the rest of
+// the buffer from the bytes already written onward, and leaves what stands behind its line untouched. The size of each is known before a
+// byte is written.
 use decimal::decimal_size;
 use meaning::Counters;
 use writers::Kind;

@@ -1,10 +1,10 @@
 -- Where a message ends: the laws of the search, and what the place that it finds means.
 -- Assumes nothing.
-use Prim.Native.Nat.{ℕ, zero, suc, _+_, _-_, _≤_, _<_}
+use Prim.Native.Nat.{ℕ, suc, _+_, _-_, _≤_, _<_}
 use native.Mathlib.Numerals.{add-one}
 use native.Mathlib.Omega.{arith}
 use mathlib.Core.Path.{_≡_, refl, sym, ap, _∙_}
-use mathlib.Core.Bool.{Bool, true, false, cond, _&&_}
+use mathlib.Core.Bool.{true, false, cond, _&&_}
 use mathlib.Core.List.{List, [], _∷_}
 use lib.Dec.{eqb}
 use lib.ListN.{length, take, drop, getD, length-drop, drop-of-length-le}
@@ -61,17 +61,17 @@ module _ {s : List ℕ} {a e : ℕ} (k : Searching s a e) where
   -- a message ends behind this byte
   pub found : e < length s → getD s e 0 ≡ byte "\n" → true ≡ opens (drop (e + 1) s) → Ends s a (e + 1)
   found h b o =
-      let f : first (drop e s) ≡ 1 = by-byte h ∙ rw (eq-eqb (getD s e 0) 10 b, ← o) in
+      let f : first (drop e s) ≡ 1 = by-byte h ∙ rw (eq-eqb (getD s e 0) (byte "\n") b, ← o) in
       ends s a (e + 1) (omega (arith, k .same))
 
   on : e < length s → first (drop e s) ≡ suc (first (drop (e + 1) s)) → Searching s a (e + 1)
   on h f = record { high = λ g. omega arith; same = omega (arith, k .same) }
 
   pub other-byte : e < length s → (getD s e 0 ≡ byte "\n" → ⊥) → Searching s a (e + 1)
-  other-byte h n = on h (by-byte h ∙ rw (ne-eqb (getD s e 0) 10 n))
+  other-byte h n = on h (by-byte h ∙ rw (ne-eqb (getD s e 0) (byte "\n") n))
 
   pub other-line : e < length s → getD s e 0 ≡ byte "\n" → false ≡ opens (drop (e + 1) s) → Searching s a (e + 1)
-  other-line h b o = on h (by-byte h ∙ rw (eq-eqb (getD s e 0) 10 b, ← o))
+  other-line h b o = on h (by-byte h ∙ rw (eq-eqb (getD s e 0) (byte "\n") b, ← o))
 
   pub at-end : length s ≤ e → Ends s a e
   at-end h = ends s a e (omega (arith, k .same, first-past s e h))

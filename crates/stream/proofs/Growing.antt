@@ -1,6 +1,6 @@
 -- A text that goes on: where its first message ends, if more bytes follow.
 -- Assumes nothing.
-use Prim.Native.Nat.{ℕ, zero, suc, _+_, _-_, _≤_, _<_}
+use Prim.Native.Nat.{ℕ, zero, suc, _+_, _≤_, _<_}
 use native.Mathlib.Nat.{zero-add, suc-add}
 use native.Mathlib.Omega.{arith}
 use mathlib.Core.Path.{_≡_, refl, sym, ap, _∙_}
@@ -10,7 +10,6 @@ use lib.Dec.{eqb}
 use lib.ListN.{length, drop}
 use Rattle.meaning.specs.Ascii.{ascii, byte}
 use Rattle.stream.specs.Ends.{startsWith, opens, first}
-use Rattle.stream.proofs.Messages.{first-some}
 
 -- an `op=1` line is seen once its five bytes are there
 starts-on : (p x t : List ℕ) → length p ≤ length x → startsWith p (x ++ t) ≡ startsWith p x
@@ -34,14 +33,14 @@ abbrev ends : ℕ → List ℕ → Bool
 ends b t = eqb b (byte "\n") && opens t
 
 ends-long : (b : ℕ) (t : List ℕ) → ends b t ≡ true → 5 ≤ length t
-ends-long b t e = go (eqb b 10) e
+ends-long b t e = go (eqb b (byte "\n")) e
   where
     go : (c : Bool) → (c && opens t) ≡ true → 5 ≤ length t
     go true f = starts-long (ascii "op=1\n") t f
     go false f = absurd (let z : _≡_ {A = ℕ} 0 1 = cc in omega arith)
 
 ends-on : (b : ℕ) (x t : List ℕ) → 5 ≤ length x → ends b (x ++ t) ≡ ends b x
-ends-on b x t h = ap (λ c. eqb b 10 && c) (starts-on (ascii "op=1\n") x t h)
+ends-on b x t h = ap (λ c. eqb b (byte "\n") && c) (starts-on (ascii "op=1\n") x t h)
 
 -- a message that ends within a text has five bytes behind it
 inside : (x : List ℕ) → first x < length x → first x + 5 ≤ length x

@@ -1,16 +1,14 @@
 -- The messages of a stream, byte by byte: a byte begins a message of its own if it is an LF ahead of an `op=1` line, and joins the message
 -- of what follows otherwise.
 -- Assumes nothing.
-use Prim.Native.Nat.{ℕ, zero, suc, _+_, _-_, _≤_, _<_}
+use Prim.Native.Nat.{ℕ, suc, _≤_, _<_}
 use native.Mathlib.Omega.{arith}
-use native.Mathlib.Numerals.{add-one}
-use mathlib.Core.Path.{_≡_, refl, sym, ap, _∙_, subst}
+use mathlib.Core.Path.{_≡_, refl, sym, ap, _∙_}
 use mathlib.Core.Bool.{Bool, true, false, cond, _&&_}
-use mathlib.Core.List.{List, [], _∷_, _++_}
-use lib.Dec.{eqb, ltb}
-use lib.ListN.{length, take, drop, getD, length-drop, drop-of-length-le}
-use lib.Seq.{drop-cons, drop-drop}
-use borrow.Author.Tests.{eq-eqb, ne-eqb, eqb-true, eqb-false, lt-ltb, le-ltb}
+use mathlib.Core.List.{List, [], _∷_}
+use lib.Dec.{eqb}
+use lib.ListN.{length, take, drop}
+use borrow.Author.Tests.{eq-eqb, ne-eqb, eqb-true, lt-ltb, le-ltb}
 use Rattle.meaning.specs.Ascii.{ascii, byte}
 use Rattle.meaning.specs.Places.{Turn, before, equal, beyond, order}
 use Rattle.meaning.specs.Stream.{ahead, lines, isOpLine, gather, messages}
@@ -72,18 +70,18 @@ data Line : List ℕ → Type 0 where
 head-starts : {p : List ℕ} → Line p → (t : List ℕ) → isLine p (headLine t) ≡ startsWith p t
 unfolding headLine startsWith
 head-starts lineFeed [] = line-none (byte "\n") []
-head-starts lineFeed (b ∷ t) = go (eqb b 10) refl
+head-starts lineFeed (b ∷ t) = go (eqb b (byte "\n")) refl
   where
-    go : (c : Bool) → eqb b 10 ≡ c → isLine (10 ∷ []) (cond c (b ∷ []) (b ∷ headLine t)) ≡ c && true
-    go true e = line-cons 10 b [] [] ∙ rw (e, line-end)
-    go false e = line-cons 10 b [] (headLine t) ∙ rw e
+    go : (c : Bool) → eqb b (byte "\n") ≡ c → isLine (byte "\n" ∷ []) (cond c (b ∷ []) (b ∷ headLine t)) ≡ c && true
+    go true e = line-cons (byte "\n") b [] [] ∙ rw (e, line-end)
+    go false e = line-cons (byte "\n") b [] (headLine t) ∙ rw e
 head-starts (longer {x} {p} n l) [] = line-none x p
-head-starts (longer {x} {p} n l) (b ∷ t) = go (eqb b 10) refl (head-starts l t)
+head-starts (longer {x} {p} n l) (b ∷ t) = go (eqb b (byte "\n")) refl (head-starts l t)
   where
-    go : (c : Bool) → eqb b 10 ≡ c → isLine p (headLine t) ≡ startsWith p t
+    go : (c : Bool) → eqb b (byte "\n") ≡ c → isLine p (headLine t) ≡ startsWith p t
         → isLine (x ∷ p) (cond c (b ∷ []) (b ∷ headLine t)) ≡ eqb b x && startsWith p t
     go true e h =
-        let f : eqb b x ≡ false = ap (λ m. eqb m x) (eqb-true b 10 e) ∙ n in
+        let f : eqb b x ≡ false = ap (λ m. eqb m x) (eqb-true b (byte "\n") e) ∙ n in
         line-cons x b p [] ∙ rw f
     go false e h = line-cons x b p (headLine t) ∙ ap (λ c. eqb b x && c) h
 
@@ -100,7 +98,7 @@ Headed l ls = (rest : List (List ℕ)) × (ls ≡ l ∷ rest)
 
 head-line : (b : ℕ) (t : List ℕ) → Headed (b ∷ headLine t) (ahead (b ∷ []) (lines t)) → Headed (headLine (b ∷ t)) (lines (b ∷ t))
 unfolding Headed lines headLine
-head-line b t h = go (eqb b 10)
+head-line b t h = go (eqb b (byte "\n"))
   where
     go : (c : Bool) → Headed (cond c (b ∷ []) (b ∷ headLine t)) (cond c ((b ∷ []) ∷ lines t) (ahead (b ∷ []) (lines t)))
     go true = (lines t, refl)
@@ -144,20 +142,20 @@ messages-none = refl
 
 messages-cons : (b : ℕ) (t : List ℕ) → messages (b ∷ t) ≡ byByte (eqb b (byte "\n") && opens t) b (messages t)
 unfolding messages lines Headed
-messages-cons b [] = by-none b (eqb b 10)
+messages-cons b [] = by-none b (eqb b (byte "\n"))
 messages-cons b (c ∷ t) =
     let h = head-lines c t in
     let o : isOpLine (headLine (c ∷ t)) ≡ opens (c ∷ t) = op-opens (c ∷ t) in
-    ap (λ ls. gather (cond (eqb b 10) ((b ∷ []) ∷ ls) (ahead (b ∷ []) ls))) (h .1)
-    ∙ (by-lines b (headLine (c ∷ t)) (h .0) (eqb b 10)
-    ∙ (ap (λ d. byByte (eqb b 10 && d) b (gather (headLine (c ∷ t) ∷ h .0))) o
-    ∙ ap (λ ls. byByte (eqb b 10 && opens (c ∷ t)) b (gather ls)) (sym (h .1))))
+    ap (λ ls. gather (cond (eqb b (byte "\n")) ((b ∷ []) ∷ ls) (ahead (b ∷ []) ls))) (h .1)
+    ∙ (by-lines b (headLine (c ∷ t)) (h .0) (eqb b (byte "\n"))
+    ∙ (ap (λ d. byByte (eqb b (byte "\n") && d) b (gather (headLine (c ∷ t) ∷ h .0))) o
+    ∙ ap (λ ls. byByte (eqb b (byte "\n") && opens (c ∷ t)) b (gather ls)) (sym (h .1))))
 
 -- The first message of a text has `first` bytes, and the others stand behind it.
 
 pub first-some : (b : ℕ) (t : List ℕ) → 1 ≤ first (b ∷ t)
 unfolding first
-first-some b t = go (eqb b 10 && opens t)
+first-some b t = go (eqb b (byte "\n") && opens t)
   where
     go : (c : Bool) → 1 ≤ cond c 1 (suc (first t))
     go true = omega arith
@@ -166,7 +164,7 @@ first-some b t = go (eqb b 10 && opens t)
 pub first-most : (t : List ℕ) → first t ≤ length t
 unfolding first
 first-most [] = omega arith
-first-most (b ∷ t) = go (eqb b 10 && opens t) (first-most t)
+first-most (b ∷ t) = go (eqb b (byte "\n") && opens t) (first-most t)
   where
     go : (c : Bool) → first t ≤ length t → cond c 1 (suc (first t)) ≤ suc (length t)
     go true h = omega arith
@@ -177,7 +175,7 @@ Cuts t = messages t ≡ take (first t) t ∷ messages (drop (first t) t)
 
 cut-by : (b : ℕ) (t : List ℕ) → ahead (b ∷ []) (messages t) ≡ (b ∷ take (first t) t) ∷ messages (drop (first t) t) → Cuts (b ∷ t)
 unfolding Cuts first
-cut-by b t h = messages-cons b t ∙ go (eqb b 10 && opens t)
+cut-by b t h = messages-cons b t ∙ go (eqb b (byte "\n") && opens t)
   where
     go : (c : Bool) → byByte c b (messages t) ≡ take (cond c 1 (suc (first t))) (b ∷ t) ∷ messages (drop (cond c 1 (suc (first t))) (b ∷ t))
     go true = refl

@@ -1,12 +1,12 @@
 -- A buffer: a chunk read behind the held bytes, and these moved to its start, byte by byte.
 -- Assumes nothing.
-use Prim.Native.Nat.{ℕ, zero, suc, _+_, _-_, _≤_, _<_}
+use Prim.Native.Nat.{ℕ, _+_, _-_, _≤_, _<_}
 use native.Mathlib.Nat.{add-zero}
 use native.Mathlib.Numerals.{add-one}
 use native.Mathlib.Omega.{arith}
 use mathlib.Core.Path.{_≡_, refl, sym, ap, _∙_}
-use mathlib.Core.List.{List, [], _∷_, _++_}
-use lib.ListN.{length, take, drop, getD, set, length-set, length-take, length-drop}
+use mathlib.Core.List.{List, _++_}
+use lib.ListN.{length, take, drop, getD, set, length-set}
 use lib.Seq.{take-suc, take-suc-set, take-all, take-add, drop-set-lt, drop-drop, getD-take, getD-drop}
 use Rattle.stream.specs.Pieces.{held, Holds, Moved}
 use Rattle.stream.specs.declared.Cut.{Cut}

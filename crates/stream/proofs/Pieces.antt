@@ -6,18 +6,16 @@ use native.Mathlib.Omega.{arith}
 use mathlib.Core.Path.{_≡_, refl, sym, ap, _∙_, subst}
 use mathlib.Core.Bool.{Bool, true, false, cond}
 use mathlib.Core.Logic.{_≢_}
-use mathlib.Core.List.{List, [], _∷_, _++_, map, append-assoc}
+use mathlib.Core.List.{List, [], _∷_, _++_, map}
 use lib.Dec.{ltb}
-use lib.ListN.{length, take, drop, length-append, length-take, length-drop}
-use lib.Seq.{take-nil, take-take, drop-nil, take-append-le, drop-append-le, drop-drop, length-take-le}
+use lib.ListN.{length, take, drop, length-append, length-drop}
+use lib.Seq.{take-nil, take-take, take-append-le, drop-append-le, drop-drop, length-take-le}
 use borrow.Author.Tests.{lt-ltb, le-ltb, ltb-true, ltb-false}
-use Rattle.meaning.specs.Stream.{messages}
 use Rattle.stream.specs.Ends.{first, Ends}
 use Rattle.stream.specs.Pieces.{Piece, whole, tooLong, judged, pieces, held, Holds, Hands, Waits, Steps}
 use Rattle.stream.specs.Steps.{behind, handed, tail, waiting}
 use Rattle.stream.specs.declared.Cut.{Cut}
-use Rattle.stream.specs.declared.Step.{Step}
-use Rattle.stream.specs.declared.Step.the-variants.{Message, TooLong, More}
+use Rattle.stream.specs.declared.Step.the-variants.{Message, TooLong}
 use Rattle.stream.proofs.Messages.{messages-none, first-some, first-most, first-cuts}
 use Rattle.stream.proofs.Growing.{first-stays, first-goes-on}
 

@@ -3,7 +3,7 @@
 -- Assumes nothing.
 use Prim.Native.Nat.{ℕ, _-_, _<_}
 use native.Mathlib.Omega.{arith}
-use mathlib.Core.Path.{_≡_, refl, sym, ap, _∙_, subst}
+use mathlib.Core.Path.{_≡_, refl, sym, ap, _∙_}
 use mathlib.Core.Bool.{Bool, true, false}
 use mathlib.Core.List.{List, [], _∷_, _++_, map, append-assoc}
 use lib.ListN.{length, take, drop}
@@ -15,7 +15,7 @@ use Rattle.meaning.specs.Receive.{Terminal}
 use Rattle.meaning.specs.Promises.{saysNothing, Receives}
 use Rattle.meaning.specs.declared.Receipt.the-variants as R
 use Rattle.theorems.specs.Sizes.{message-short}
-use Rattle.stream.specs.Pieces.{Piece, whole, tooLong, judged, pieces, held, Holds, Run, joined}
+use Rattle.stream.specs.Pieces.{Piece, whole, tooLong, judged, pieces, held, Run, joined}
 use Rattle.stream.specs.Pieces as p
 use Rattle.stream.specs.declared.Cut.{Cut}
 

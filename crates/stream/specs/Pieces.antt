@@ -1,6 +1,6 @@
--- Document 01, "Messages" and "The saved sheet": a stream for a program that reads it chunk by chunk and holds no more than one
--- message. Each message of at most 463 bytes is handed over whole; a longer one, which is no message's text, is one that is too long,
--- however long it is.
+-- Document 01, "Messages" and "The saved sheet": a stream for a program that reads it chunk by chunk and holds no more than one message.
+-- Each message of at most 463 bytes is handed over whole; a longer one, which is no message's text, is one that is too
+-- long, however long it is.
 -- Assumes nothing: these are definitions.
 use Prim.Native.Nat.{ℕ, _-_, _≤_, _<_}
 use mathlib.Core.Path.{_≡_}

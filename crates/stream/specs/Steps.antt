@@ -1,7 +1,7 @@
 -- What a step over a stream answers, as the code decides it.
 -- Assumes nothing: these are definitions.
 use Prim.Native.Nat.{ℕ, _-_}
-use mathlib.Core.Bool.{Bool, true, false, cond}
+use mathlib.Core.Bool.{true, false, cond}
 use lib.Dec.{ltb}
 use Rattle.stream.specs.declared.Cut.{Cut}
 use Rattle.stream.specs.declared.Step.{Step}

@@ -7,8 +7,8 @@ ghost use Rattle.stream.specs.Ends.{startsWith, opens, Ends};
 ghost use Rattle.stream.specs.Pieces.{Holds, Steps, Moved};
 ghost use Rattle.stream.specs.Steps.{handed, waiting};
 
-// Where a program stands that reads a stream into a buffer: the bytes from `from` to `to` are read and not handed over; if `passing`,
-// they go on with a message that is too long.
+// Where a program stands that reads a stream into a buffer: the bytes from `from` to `to` are read and not handed over; if `passing`, they
+// go on with a message that is too long.
 pub struct Cut {
     pub from: usize,
     pub to: usize,

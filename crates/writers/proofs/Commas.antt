@@ -1,9 +1,9 @@
 -- Counters with commas between them: the laws of the loop that writes them and of the one that sizes them.
 -- Assumes nothing.
-use Prim.Native.Nat.{ℕ, suc, _+_, _-_, _*_, _≤_, _<_}
+use Prim.Native.Nat.{ℕ, _+_, _*_, _≤_, _<_}
 use native.Mathlib.Numerals.{add-one}
 use native.Mathlib.Omega.{arith}
-use mathlib.Core.Path.{_≡_, refl, sym, ap, _∙_}
+use mathlib.Core.Path.{_≡_, ap}
 use mathlib.Core.List.{List, [], _∷_, _++_}
 use lib.ListN.{length, drop, getD, length-append, drop-of-length-le}
 use lib.Seq.{drop-cons}
@@ -78,4 +78,7 @@ module _ (cs : List ℕ) (eight : length cs ≡ 8) where
   }
 
   pub added : {n i : ℕ} → Adding cs n i → 8 ≤ i → Sized (countersText cs) 167 n
-  added {n} {i} a h = record { size = omega (arith, a .sum, ap length (commas-none cs i (omega arith))); most = omega (arith, a .most, a .high) }
+  added {n} {i} a h = record {
+    size = omega (arith, a .sum, ap length (commas-none cs i (omega arith)));
+    most = omega (arith, a .most, a .high);
+  }

@@ -1,11 +1,10 @@
 -- A plain value's text and bounds, by its kind.
 -- Assumes nothing.
-use Prim.Native.Nat.{ℕ, suc, _+_, _*_, _≤_}
+use Prim.Native.Nat.{ℕ, _+_, _*_, _≤_}
 use native.Mathlib.Numerals.{add-one}
 use native.Mathlib.Omega.{arith}
-use mathlib.Core.Path.{_≡_, refl, sym, ap, _∙_, subst}
-use mathlib.Core.List.{List, [], _∷_, _++_}
-use lib.ListN.{length}
+use mathlib.Core.Path.{_≡_, sym, ap, _∙_, subst}
+use mathlib.Core.List.{List, _++_}
 use Rattle.meaning.specs.Ascii.{ascii}
 use Rattle.meaning.specs.Text.{decimal, integerText, hex, plainText}
 use Rattle.writers.specs.Words.{bytesOf}

@@ -81,29 +81,6 @@ pub fn put_hex_key(buf: &mut [u8], hi: u64, lo: u64, len: u64) -> usize
     put_hex(buf, &words, len as usize)
 }
 
-// Writes a string of len bytes, which is held as four words.
-pub fn put_hex_string(buf: &mut [u8], words: [u64; 4], len: u64) -> usize
-    requires { ⌜ (len ≤ 32) × (length (hex (bytesOf words len)) ≤ length (now buf)) ⌝ }
-    ensures { λ r. ⌜ Wrote (hex (bytesOf words len)) (now (buf .entry)) (now (buf .exit)) r ⌝ }
-{
-    put_hex(buf, &words, len as usize)
-}
-
-// Goes on with a text at the place `at`: the rest of the buffer is lent to its writer.
-pub fn then_text(buf: &mut [u8], at: usize, text: &[u8]) -> usize
-    requires { ⌜ at + length (now text) ≤ length (now buf) ⌝ }
-    ensures { λ r. ⌜ WroteAt (now (text .entry)) at (now (buf .entry)) (now (buf .exit)) r ⌝ }
-{
-    at + put_text(&mut buf[at..], text)
-}
-
-pub fn then_decimal(buf: &mut [u8], at: usize, v: u64, t: &[u64; 20]) -> usize
-    requires { ⌜ (now t ≡ powers) × (at + length (decimal v) ≤ length (now buf)) ⌝ }
-    ensures { λ r. ⌜ WroteAt (decimal v) at (now (buf .entry)) (now (buf .exit)) r ⌝ }
-{
-    at + put_decimal(&mut buf[at..], v, t)
-}
-
 // Writes an id, c.r.
 pub fn put_id(buf: &mut [u8], id: u64, t: &[u64; 20]) -> usize
     requires { ⌜ (now t ≡ powers) × (length (idText id) ≤ length (now buf)) ⌝ }
@@ -159,27 +136,6 @@ pub fn counters_size(counters: Counters, t: &[u64; 20]) -> usize
     n
 }
 
-pub fn then_hex(buf: &mut [u8], at: usize, words: &[u64], n: usize) -> usize
-    requires { ⌜ (n ≤ 8 * length (now words)) × (at + length (hex (bytesOf (now words) n)) ≤ length (now buf)) ⌝ }
-    ensures { λ r. ⌜ WroteAt (hex (bytesOf (now (words .entry)) n)) at (now (buf .entry)) (now (buf .exit)) r ⌝ }
-{
-    at + put_hex(&mut buf[at..], words, n)
-}
-
-pub fn then_id(buf: &mut [u8], at: usize, id: u64, t: &[u64; 20]) -> usize
-    requires { ⌜ (now t ≡ powers) × (at + length (idText id) ≤ length (now buf)) ⌝ }
-    ensures { λ r. ⌜ WroteAt (idText id) at (now (buf .entry)) (now (buf .exit)) r ⌝ }
-{
-    at + put_id(&mut buf[at..], id, t)
-}
-
-pub fn then_counters(buf: &mut [u8], at: usize, counters: Counters, t: &[u64; 20]) -> usize
-    requires { ⌜ (now t ≡ powers) × (at + length (countersText (counters .at)) ≤ length (now buf)) ⌝ }
-    ensures { λ r. ⌜ WroteAt (countersText (counters .at)) at (now (buf .entry)) (now (buf .exit)) r ⌝ }
-{
-    at + put_counters(&mut buf[at..], counters, t)
-}
-
 // Writes a plain value.
 pub fn put_plain(buf: &mut [u8], kind: Kind, words: [u64; 4], t: &[u64; 20]) -> usize
     requires { ⌜ (now t ≡ powers) × InBounds kind × (length (plainText (plainOf kind words)) ≤ length (now buf)) ⌝ }
@@ -217,6 +173,43 @@ pub fn plain_size(kind: Kind, words: [u64; 4], t: &[u64; 20]) -> usize
         Kind::Neg(n) => 2 + decimal_size(n + 1, t),
         Kind::String(len) => 1 + 2 * (len as usize),
     }
+}
+
+// Going on at the place `at`: the rest of the buffer is lent to the writer, and the answer is the place behind the text.
+
+pub fn then_text(buf: &mut [u8], at: usize, text: &[u8]) -> usize
+    requires { ⌜ at + length (now text) ≤ length (now buf) ⌝ }
+    ensures { λ r. ⌜ WroteAt (now (text .entry)) at (now (buf .entry)) (now (buf .exit)) r ⌝ }
+{
+    at + put_text(&mut buf[at..], text)
+}
+
+pub fn then_decimal(buf: &mut [u8], at: usize, v: u64, t: &[u64; 20]) -> usize
+    requires { ⌜ (now t ≡ powers) × (at + length (decimal v) ≤ length (now buf)) ⌝ }
+    ensures { λ r. ⌜ WroteAt (decimal v) at (now (buf .entry)) (now (buf .exit)) r ⌝ }
+{
+    at + put_decimal(&mut buf[at..], v, t)
+}
+
+pub fn then_hex(buf: &mut [u8], at: usize, words: &[u64], n: usize) -> usize
+    requires { ⌜ (n ≤ 8 * length (now words)) × (at + length (hex (bytesOf (now words) n)) ≤ length (now buf)) ⌝ }
+    ensures { λ r. ⌜ WroteAt (hex (bytesOf (now (words .entry)) n)) at (now (buf .entry)) (now (buf .exit)) r ⌝ }
+{
+    at + put_hex(&mut buf[at..], words, n)
+}
+
+pub fn then_id(buf: &mut [u8], at: usize, id: u64, t: &[u64; 20]) -> usize
+    requires { ⌜ (now t ≡ powers) × (at + length (idText id) ≤ length (now buf)) ⌝ }
+    ensures { λ r. ⌜ WroteAt (idText id) at (now (buf .entry)) (now (buf .exit)) r ⌝ }
+{
+    at + put_id(&mut buf[at..], id, t)
+}
+
+pub fn then_counters(buf: &mut [u8], at: usize, counters: Counters, t: &[u64; 20]) -> usize
+    requires { ⌜ (now t ≡ powers) × (at + length (countersText (counters .at)) ≤ length (now buf)) ⌝ }
+    ensures { λ r. ⌜ WroteAt (countersText (counters .at)) at (now (buf .entry)) (now (buf .exit)) r ⌝ }
+{
+    at + put_counters(&mut buf[at..], counters, t)
 }
 
 pub fn then_plain(buf: &mut [u8], at: usize, kind: Kind, words: [u64; 4], t: &[u64; 20]) -> usize

@@ -1,7 +1,6 @@
 -- `lines::flag` meets its contract.
 -- Assumes nothing.
 
-use borrow.Author.Needs.{needs}
 use Rattle.lines.proofs.flag.Statement.{statement}
 use Rattle.lines.proofs.flag.Tie as tie
 

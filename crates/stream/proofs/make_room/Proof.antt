@@ -1,7 +1,6 @@
 -- `stream::make_room` meets its contract. The loop's invariant, `Moving`: the first i of the held bytes are moved.
 -- Assumes nothing.
 use Prim.Native.Nat.{_-_}
-use native.Mathlib.Omega.{arith}
 use Rattle.stream.proofs.Moving.{Moving, moving-none, moving-more, moved}
 use borrow.Author.Needs.{needs}
 use Rattle.stream.proofs.make_room.Statement.{statement}

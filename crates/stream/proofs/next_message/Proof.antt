@@ -1,10 +1,8 @@
 -- `stream::next_message` meets its contract. The loop's invariant, `Searching`: no message ends from a to e.
 -- Assumes nothing.
 use Prim.Native.Nat.{_-_}
-use native.Mathlib.Omega.{arith}
 use mathlib.Core.Path.{sym, _∙_}
 use lib.ListN.{length}
-use Rattle.stream.specs.Ends.{opens}
 use Rattle.stream.proofs.Ending.{Searching, searching-none, found, other-byte, other-line, at-end}
 use borrow.Author.Needs.{needs}
 use Rattle.stream.proofs.next_message.Statement.{statement}

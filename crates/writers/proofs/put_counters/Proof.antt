@@ -1,7 +1,6 @@
 -- `writers::put_counters` meets its contract. The loop's invariant, `Counting`: the counters before number i are written.
 -- Assumes nothing.
 use Prim.Native.Nat.{_-_}
-use native.Mathlib.Omega.{arith}
 use mathlib.Core.Path.{refl}
 use Rattle.meaning.specs.Ascii.{ascii}
 use Rattle.meaning.specs.Text.{decimal}

@@ -2,7 +2,7 @@
 -- Assumes nothing.
 use Prim.Native.Nat.{_-_, _*_}
 use native.Mathlib.Omega.{arith}
-use lib.ListN.{length, length-set}
+use lib.ListN.{length-set}
 use Rattle.writers.proofs.Hex.{Hexing, hexing-none, hexing-more, hexing-all, size-hex}
 use borrow.Author.Needs.{needs}
 use Rattle.writers.proofs.put_hex.Statement.{statement}
