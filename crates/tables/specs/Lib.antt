@@ -2,3 +2,4 @@ pub mod Words
 pub mod Seek
 pub mod Finds
 pub mod Standing
+pub mod Holding

@@ -13,6 +13,13 @@ pub struct Stop {
     pub value: usize,
 }
 
+// How many rows, marks and values the tables hold.
+pub struct Counts {
+    pub rows: usize,
+    pub marks: usize,
+    pub values: usize,
+}
+
 // What is looked for among the rows of a depth: a key by its three words (kind 0), an element by its id (1), the seat of a new element
 // (2; from the head 3), or the end of what hangs there (4).
 pub struct Want {
