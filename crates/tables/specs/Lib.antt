@@ -3,3 +3,4 @@ pub mod Seek
 pub mod Finds
 pub mod Standing
 pub mod Holding
+pub mod Parts
