@@ -99,7 +99,7 @@ balance-front xs rs us c p = record {
   values = omega (arith, values-append xs rs, values-append xs us, p .values);
 }
 
-passed-rest : (p : Row → Bool) (rs : List Row) → passed p rs ++ rest p rs ≡ rs
+pub passed-rest : (p : Row → Bool) (rs : List Row) → passed p rs ++ rest p rs ≡ rs
 unfolding passed rest
 passed-rest p [] = refl
 passed-rest p (r ∷ rs) = go (p r) (passed-rest p rs)

@@ -1,0 +1,266 @@
+use Prim.Native.Nat.{ℕ, _<_}
+use borrow.Fn.Kinds.{In}
+use borrow.Fn.PlainCycle.{Measures, is, falls, and}
+use Rattle.clear.proofs.clear_branch.Reads as clear-branch
+use Rattle.clear.proofs.clear_branch.Kinds as clear-branch-kinds
+use Rattle.clear.proofs.+clear_branch+clear_place.Lts-clear_branch as clear-branch-lts
+use Rattle.clear.proofs.clear_place.Reads as clear-place
+use Rattle.clear.proofs.clear_place.Kinds as clear-place-kinds
+use Rattle.clear.proofs.+clear_branch+clear_place.Lts-clear_place as clear-place-lts
+use Rattle.clear.proofs.clear_row.Reads as clear-row-reads
+use Rattle.clear.proofs.+clear_branch+clear_place.{statement}
+use Rattle.clear.proofs.+clear_branch+clear_place.Tie.{close}
+
+abbrev μ-clear-branch : Measures 3 clear-branch-kinds.ps ℕ
+μ-clear-branch κs a = ?
+
+abbrev μ-clear-place : Measures 3 clear-place-kinds.ps ℕ
+μ-clear-place κs a = ?
+
+abbrev clear-branch-at : ℕ → In 3 clear-branch-kinds.ps
+clear-branch-at t =
+    and 3 clear-branch-kinds.ps (is 3 clear-branch-kinds.ps μ-clear-branch t) clear-branch.Pre
+
+abbrev clear-branch-below : ℕ → In 3 clear-branch-kinds.ps
+clear-branch-below t =
+    and
+    3
+    clear-branch-kinds.ps
+    (falls 3 clear-branch-kinds.ps _<_ μ-clear-branch t)
+    clear-branch.Pre
+
+abbrev clear-place-at : ℕ → In 3 clear-place-kinds.ps
+clear-place-at t =
+    and 3 clear-place-kinds.ps (is 3 clear-place-kinds.ps μ-clear-place t) clear-place.Pre
+
+abbrev clear-place-below : ℕ → In 3 clear-place-kinds.ps
+clear-place-below t =
+    and 3 clear-place-kinds.ps (falls 3 clear-place-kinds.ps _<_ μ-clear-place t) clear-place.Pre
+
+abbrev clear-branch-Inv-loop : clear-branch-lts.InvT-loop
+clear-branch-Inv-loop heads₀ marks₀ values₀ rows d n left q₀ heads marks values q = ?
+
+abbrev clear-branch-μ-loop : clear-branch-lts.MeasureT-loop
+clear-branch-μ-loop heads₀ marks₀ values₀ rows d n left q₀ heads marks values q = ?
+
+-- src/lib.rt:81:9
+clear-branch-returns : (t : ℕ) → clear-branch-lts.Need-returns (
+  clear-place-below t,
+  clear-place.Post,
+) (clear-branch-at t) clear-branch.Post clear-branch-Inv-loop clear-branch-μ-loop
+clear-branch-returns t c = ?
+
+-- src/lib.rt:84:5
+clear-branch-loop-holds : (t : ℕ) → clear-branch-lts.Need-loop-holds (
+  clear-place-below t,
+  clear-place.Post,
+) (clear-branch-at t) clear-branch.Post clear-branch-Inv-loop clear-branch-μ-loop
+clear-branch-loop-holds t c = ?
+
+-- src/lib.rt:86:12
+clear-branch-mul-if3 : (t : ℕ) → clear-branch-lts.Need-mul-if3 (
+  clear-place-below t,
+  clear-place.Post,
+) (clear-branch-at t) clear-branch.Post clear-branch-Inv-loop clear-branch-μ-loop
+clear-branch-mul-if3 t c = ?
+
+-- src/lib.rt:86:12
+clear-branch-slice-read-if3 : (t : ℕ) → clear-branch-lts.Need-slice-read-if3 (
+  clear-place-below t,
+  clear-place.Post,
+) (clear-branch-at t) clear-branch.Post clear-branch-Inv-loop clear-branch-μ-loop
+clear-branch-slice-read-if3 t c = ?
+
+-- src/lib.rt:87:13
+clear-branch-same-length : (t : ℕ) → clear-branch-lts.Need-same-length (
+  clear-place-below t,
+  clear-place.Post,
+) (clear-branch-at t) clear-branch.Post clear-branch-Inv-loop clear-branch-μ-loop
+clear-branch-same-length t c = ?
+
+-- src/lib.rt:87:13
+clear-branch-same-length-2 : (t : ℕ) → clear-branch-lts.Need-same-length-2 (
+  clear-place-below t,
+  clear-place.Post,
+) (clear-branch-at t) clear-branch.Post clear-branch-Inv-loop clear-branch-μ-loop
+clear-branch-same-length-2 t c = ?
+
+-- src/lib.rt:87:13
+clear-branch-same-length-3 : (t : ℕ) → clear-branch-lts.Need-same-length-3 (
+  clear-place-below t,
+  clear-place.Post,
+) (clear-branch-at t) clear-branch.Post clear-branch-Inv-loop clear-branch-μ-loop
+clear-branch-same-length-3 t c = ?
+
+-- src/lib.rt:87:13
+clear-branch-returns-2 : (t : ℕ) → clear-branch-lts.Need-returns-2 (
+  clear-place-below t,
+  clear-place.Post,
+) (clear-branch-at t) clear-branch.Post clear-branch-Inv-loop clear-branch-μ-loop
+clear-branch-returns-2 t c = ?
+
+-- src/lib.rt:89:59
+clear-branch-sub-clear-place : (t : ℕ) → clear-branch-lts.Need-sub-clear-place (
+  clear-place-below t,
+  clear-place.Post,
+) (clear-branch-at t) clear-branch.Post clear-branch-Inv-loop clear-branch-μ-loop
+clear-branch-sub-clear-place t c = ?
+
+-- src/lib.rt:89:9
+clear-branch-clear-place-requires : (t : ℕ) → clear-branch-lts.Need-clear-place-requires (
+  clear-place-below t,
+  clear-place.Post,
+) (clear-branch-at t) clear-branch.Post clear-branch-Inv-loop clear-branch-μ-loop
+clear-branch-clear-place-requires t c κs = ?
+
+-- src/lib.rt:84:5
+clear-branch-loop-less : (t : ℕ) → clear-branch-lts.Need-loop-less (
+  clear-place-below t,
+  clear-place.Post,
+) (clear-branch-at t) clear-branch.Post clear-branch-Inv-loop clear-branch-μ-loop
+clear-branch-loop-less t c = ?
+
+-- src/lib.rt:84:5
+clear-branch-loop-again : (t : ℕ) → clear-branch-lts.Need-loop-again (
+  clear-place-below t,
+  clear-place.Post,
+) (clear-branch-at t) clear-branch.Post clear-branch-Inv-loop clear-branch-μ-loop
+clear-branch-loop-again t c = ?
+
+-- src/lib.rt:64:1
+clear-branch-same-length-4 : (t : ℕ) → clear-branch-lts.Need-same-length-4 (
+  clear-place-below t,
+  clear-place.Post,
+) (clear-branch-at t) clear-branch.Post clear-branch-Inv-loop clear-branch-μ-loop
+clear-branch-same-length-4 t c = ?
+
+-- src/lib.rt:64:1
+clear-branch-same-length-5 : (t : ℕ) → clear-branch-lts.Need-same-length-5 (
+  clear-place-below t,
+  clear-place.Post,
+) (clear-branch-at t) clear-branch.Post clear-branch-Inv-loop clear-branch-μ-loop
+clear-branch-same-length-5 t c = ?
+
+-- src/lib.rt:64:1
+clear-branch-same-length-6 : (t : ℕ) → clear-branch-lts.Need-same-length-6 (
+  clear-place-below t,
+  clear-place.Post,
+) (clear-branch-at t) clear-branch.Post clear-branch-Inv-loop clear-branch-μ-loop
+clear-branch-same-length-6 t c = ?
+
+-- src/lib.rt:64:1
+clear-branch-returns-3 : (t : ℕ) → clear-branch-lts.Need-returns-3 (
+  clear-place-below t,
+  clear-place.Post,
+) (clear-branch-at t) clear-branch.Post clear-branch-Inv-loop clear-branch-μ-loop
+clear-branch-returns-3 t c = ?
+
+-- src/lib.rt:58:13
+clear-place-mul-n : (t : ℕ) → clear-place-lts.Need-mul-n (
+  clear-row-reads.Asked,
+  clear-row-reads.Learnt,
+  clear-branch-below t,
+  clear-branch.Post,
+) (clear-place-at t) clear-place.Post
+clear-place-mul-n t c = ?
+
+-- src/lib.rt:58:13
+clear-place-slice-read-n : (t : ℕ) → clear-place-lts.Need-slice-read-n (
+  clear-row-reads.Asked,
+  clear-row-reads.Learnt,
+  clear-branch-below t,
+  clear-branch.Post,
+) (clear-place-at t) clear-place.Post
+clear-place-slice-read-n t c = ?
+
+-- src/lib.rt:59:9
+clear-place-clear-row-requires : (t : ℕ) → clear-place-lts.Need-clear-row-requires (
+  clear-row-reads.Asked,
+  clear-row-reads.Learnt,
+  clear-branch-below t,
+  clear-branch.Post,
+) (clear-place-at t) clear-place.Post
+clear-place-clear-row-requires t c κs = ?
+
+-- src/lib.rt:60:5
+clear-place-clear-branch-requires : (t : ℕ) → clear-place-lts.Need-clear-branch-requires (
+  clear-row-reads.Asked,
+  clear-row-reads.Learnt,
+  clear-branch-below t,
+  clear-branch.Post,
+) (clear-place-at t) clear-place.Post
+clear-place-clear-branch-requires t c κs = ?
+
+-- src/lib.rt:50:1
+clear-place-same-length : (t : ℕ) → clear-place-lts.Need-same-length (
+  clear-row-reads.Asked,
+  clear-row-reads.Learnt,
+  clear-branch-below t,
+  clear-branch.Post,
+) (clear-place-at t) clear-place.Post
+clear-place-same-length t c = ?
+
+-- src/lib.rt:50:1
+clear-place-same-length-2 : (t : ℕ) → clear-place-lts.Need-same-length-2 (
+  clear-row-reads.Asked,
+  clear-row-reads.Learnt,
+  clear-branch-below t,
+  clear-branch.Post,
+) (clear-place-at t) clear-place.Post
+clear-place-same-length-2 t c = ?
+
+-- src/lib.rt:50:1
+clear-place-same-length-3 : (t : ℕ) → clear-place-lts.Need-same-length-3 (
+  clear-row-reads.Asked,
+  clear-row-reads.Learnt,
+  clear-branch-below t,
+  clear-branch.Post,
+) (clear-place-at t) clear-place.Post
+clear-place-same-length-3 t c = ?
+
+-- src/lib.rt:50:1
+clear-place-returns : (t : ℕ) → clear-place-lts.Need-returns (
+  clear-row-reads.Asked,
+  clear-row-reads.Learnt,
+  clear-branch-below t,
+  clear-branch.Post,
+) (clear-place-at t) clear-place.Post
+clear-place-returns t c = ?
+
+pub +clear-branch+clear-place-spec : {M : Type 1} → statement M
++clear-branch+clear-place-spec = close μ-clear-branch μ-clear-place (λ t. clear-branch-lts.spec (
+  clear-place-below t,
+  clear-place.Post,
+)
+    (clear-branch-at t)
+    clear-branch.Post
+    clear-branch-Inv-loop
+    clear-branch-μ-loop
+    (clear-branch-returns t)
+    (clear-branch-loop-holds t)
+    (clear-branch-mul-if3 t)
+    (clear-branch-slice-read-if3 t)
+    (clear-branch-same-length t)
+    (clear-branch-same-length-2 t)
+    (clear-branch-same-length-3 t)
+    (clear-branch-returns-2 t)
+    (clear-branch-sub-clear-place t)
+    (clear-branch-clear-place-requires t)
+    (clear-branch-loop-less t)
+    (clear-branch-loop-again t)
+    (clear-branch-same-length-4 t)
+    (clear-branch-same-length-5 t)
+    (clear-branch-same-length-6 t)
+    (clear-branch-returns-3 t))
+    λ t. clear-place-lts.spec
+    (clear-row-reads.Asked, clear-row-reads.Learnt, clear-branch-below t, clear-branch.Post)
+    (clear-place-at t)
+    clear-place.Post
+    (clear-place-mul-n t)
+    (clear-place-slice-read-n t)
+    (clear-place-clear-row-requires t)
+    (clear-place-clear-branch-requires t)
+    (clear-place-same-length t)
+    (clear-place-same-length-2 t)
+    (clear-place-same-length-3 t)
+    (clear-place-returns t)
