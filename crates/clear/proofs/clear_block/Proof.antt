@@ -1,4 +1,9 @@
+-- `clear::clear_block` meets its contract: no tables that hold rows fail its tests, and what it leaves is said by proofs/Block.
+-- Assumes nothing.
+use native.Mathlib.Omega.{arith}
 use borrow.Author.Needs.{needs}
+use Rattle.clear.specs.Clear.{passing}
+use Rattle.clear.proofs.Block.{not-sitting, far-marks, far-values, block-done}
 use Rattle.clear.proofs.clear_block.Statement.{statement}
 use Rattle.clear.proofs.clear_block.Tie as tie
 use Rattle.clear.proofs.clear_block.Reads as reads
@@ -8,27 +13,45 @@ use Rattle.words.proofs.close.Reads as close-reads
 
 -- src/lib.rt:106:9
 returns : tie.Need-returns
-returns c = ?
+returns c =
+    let a = c .before .before .before .before in
+    let t = c .if1 .taken in
+    not-sitting (a .args .d .at) (a .args .heads .now) (a .args .marks .now) (a .args .values .now) (a .args .c) (a .args .s) (λ z. omega arith)
 
 -- src/lib.rt:109:9
 returns-2 : tie.Need-returns-2
-returns-2 c = ?
+returns-2 c =
+    let a = c .before .before .before .before .before in
+    let t = c .if2 .taken in
+    not-sitting (a .args .d .at) (a .args .heads .now) (a .args .marks .now) (a .args .values .now) (a .args .c) (a .args .s) (λ z. omega arith)
 
 -- src/lib.rt:112:9
 returns-3 : tie.Need-returns-3
-returns-3 c = ?
+returns-3 c =
+    let a = c .before .before .before .before .before .before in
+    let t = c .if3 .taken in
+    not-sitting (a .args .d .at) (a .args .heads .now) (a .args .marks .now) (a .args .values .now) (a .args .c) (a .args .s) (λ z. omega arith)
 
 -- src/lib.rt:115:9
 returns-4 : tie.Need-returns-4
-returns-4 c = ?
+returns-4 c =
+    let a = c .before .before .before .before .before .before .before in
+    let t = c .if4 .taken in
+    not-sitting (a .args .d .at) (a .args .heads .now) (a .args .marks .now) (a .args .values .now) (a .args .c) (a .args .s) (λ z. omega arith)
 
 -- src/lib.rt:118:9
 returns-5 : tie.Need-returns-5
-returns-5 c = ?
+returns-5 c =
+    let a = c .before .before .before .before .before .before .before .before .before in
+    let t = c .if5 .taken in
+    not-sitting (a .args .d .at) (a .args .heads .now) (a .args .marks .now) (a .args .values .now) (a .args .c) (a .args .s) (λ z. omega arith)
 
 -- src/lib.rt:121:9
 returns-6 : tie.Need-returns-6
-returns-6 c = ?
+returns-6 c =
+    let a = c .before .before .before .before .before .before .before .before .before .before .before .before in
+    let t = c .if6 .taken in
+    not-sitting (a .args .d .at) (a .args .heads .now) (a .args .marks .now) (a .args .values .now) (a .args .c) (a .args .s) (λ z. omega arith)
 
 -- src/lib.rt:123:17
 mul-words : tie.Need-mul-words
@@ -56,7 +79,11 @@ same-length-3 c = search needs
 
 -- src/lib.rt:128:9
 returns-7 : tie.Need-returns-7
-returns-7 c = ?
+returns-7 c =
+    let a = c .before .before .before .before .before .before .before .before .before .before .before .before .before .before .before .before .before .before .before .before .before .before .before .before .before .before in
+    let p = c .before .before .before .before .before .before .before .before .clear-place in
+    let y = passing (p .last .0) (p .last .1 .0) (p .last .1 .1 .0) (p .result) in
+    far-marks (a .args .d .at) (a .args .heads .now) (a .args .marks .now) (a .args .values .now) (a .args .c) (a .args .s) y (p .ensures) (c .if7 .taken)
 
 -- src/lib.rt:131:9
 same-length-4 : tie.Need-same-length-4
@@ -72,7 +99,11 @@ same-length-6 c = search needs
 
 -- src/lib.rt:131:9
 returns-8 : tie.Need-returns-8
-returns-8 c = ?
+returns-8 c =
+    let a = c .before .before .before .before .before .before .before .before .before .before .before .before .before .before .before .before .before .before .before .before .before .before .before .before .before .before .before .before in
+    let p = c .before .before .before .before .before .before .before .before .before .before .clear-place in
+    let y = passing (p .last .0) (p .last .1 .0) (p .last .1 .1 .0) (p .result) in
+    far-values (a .args .d .at) (a .args .heads .now) (a .args .marks .now) (a .args .values .now) (a .args .c) (a .args .s) y (p .ensures) (c .if8 .taken)
 
 -- src/lib.rt:133:16
 sub-gone : tie.Need-sub-gone
@@ -84,11 +115,23 @@ sub-gone-words c = search needs
 
 -- src/lib.rt:135:5
 close-requires : tie.Need-close-requires
-close-requires c κs = ?
+close-requires c κs =
+    let p = c .before .before .before .before .before .before .before .before .before .before .before .before .before .clear-place in
+    let w = p .ensures .within in
+    let l = p .kept .1 .0 in
+    let i = c .before .before .before .before .before .if7 .left in
+    let j = c .before .before .before .before .before .before .before .before .before .before .before .before .before .before .before .before .before .before .before .before .before .before .before .before .before .if3 .left in
+    (w .marks-low, i, omega arith)
 
 -- src/lib.rt:136:5
 close-requires-2 : tie.Need-close-requires-2
-close-requires-2 c κs = ?
+close-requires-2 c κs =
+    let p = c .before .before .before .before .before .before .before .before .before .before .before .before .before .before .before .before .before .clear-place in
+    let w = p .ensures .within in
+    let l = p .kept .1 .1 .0 in
+    let i = c .before .before .before .before .before .before .before .if8 .left in
+    let j = c .before .before .before .before .before .before .before .before .before .before .before .before .before .before .before .before .before .before .before .before .before .before .before .before .before .before .if5 .left in
+    (w .values-low, i, omega arith)
 
 -- src/lib.rt:137:33
 sub-t17 : tie.Need-sub-t17
@@ -112,7 +155,11 @@ same-length-9 c = search needs
 
 -- src/lib.rt:95:1
 returns-9 : tie.Need-returns-9
-returns-9 c = ?
+returns-9 c =
+    let a = c .before .before .before .before .before .before .before .before .before .before .before .before .before .before .before .before .before .before .before .before .before .before .before .before .before .before .before .before .before .before .before .before .before .before .before .before .before .before in
+    let p = c .before .before .before .before .before .before .before .before .before .before .before .before .before .before .before .before .before .before .before .before .clear-place in
+    let y = passing (p .last .0) (p .last .1 .0) (p .last .1 .1 .0) (p .result) in
+    block-done (a .args .d .at) (a .args .heads .now) (a .args .marks .now) (a .args .values .now) (a .args .c) (a .args .s) y (p .ensures) (c .before .before .before .before .before .before .close .last .0) (c .before .before .close2 .last .0) (c .before .before .before .before .before .before .close .ensures) (c .before .before .close2 .ensures)
 
 pub clear-block-spec : {M : Type 1} → statement M
 clear-block-spec =
