@@ -212,7 +212,7 @@ module _ (d h m v : List ℕ) (c : Counts) (s : Stop) where
       where
         go : (k : List ℕ) (A R : List Row) (r : Row) → Holds (four h k m v) c (A ++ r ∷ R) → s ≡ behind A
             → Holds (four (y .heads) k m′ v′) (counted c (y .at))
-              (A ++ clearRow d r ∷ (map (clearRow d) (passed (deeper (r .depth)) R) ++ rest (deeper (r .depth)) R))
+            (A ++ clearRow d r ∷ (map (clearRow d) (passed (deeper (r .depth)) R) ++ rest (deeper (r .depth)) R))
         go k A R r H e =
             let M : List Row = map (clearRow d) (passed (deeper (r .depth)) R) in
             let Q : List Row = rest (deeper (r .depth)) R in

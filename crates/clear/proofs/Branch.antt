@@ -64,9 +64,9 @@ module _ (d : List ℕ) (rows n left : ℕ) (x y : Pass) (W : Walks d rows n lef
     high = W .starts .row-in;
     within = W .starts .within;
     clears = λ c A us e l G.
-      let w = W .walks c A us e l G in
-      let t = splits n us (w .done) (w .todo) (w .split) (w .deep) (s c _ (w .todo) e (w .gaps)) in
-      rw (t .front, t .back) (w .gaps);
+        let w = W .walks c A us e l G in
+        let t = splits n us (w .done) (w .todo) (w .split) (w .deep) (s c _ (w .todo) e (w .gaps)) in
+        rw (t .front, t .back) (w .gaps);
   }
 
   pub walks-end : rows ≤ y .at .row → ClearsBranch d rows n left x y
@@ -91,8 +91,8 @@ branch-none d rows n left x S z = record {
   high = S .row-in;
   within = S .within;
   clears = λ c A us e l G.
-    let t = shallow-stop n us (go us (omega arith) (G .good-behind)) in
-    rw (t .front, t .back, append-nil A) G;
+      let t = shallow-stop n us (go us (omega arith) (G .good-behind)) in
+      rw (t .front, t .back, append-nil A) G;
 }
   where
     go : (us : List Row) → 8 ≤ n → All Good us → Shallow n us
@@ -135,8 +135,8 @@ module _ (d : List ℕ) (rows n left : ℕ) (x y z : Pass) (W : Walks d rows n l
     low = omega (arith, W .low, P .low);
     starts = record { rows-in = a; row-in = P .high; within = P .within };
     walks = λ c A us e l G.
-      let w = W .walks c A us e l G in
-      one-more c A us e l (w .done) (w .todo) (w .split) (w .deep) (w .gaps);
+        let w = W .walks c A us e l G in
+        one-more c A us e l (w .done) (w .todo) (w .split) (w .deep) (w .gaps);
   }
 
 -- A row, then the branch under it.
@@ -151,7 +151,7 @@ module _ (d : List ℕ) (rows n left : ℕ) (x y z : Pass) (e : n ≡ getD (x .h
     high = B .high;
     within = B .within;
     clears = λ c A us r k l G.
-      let f : n ≡ r .depth = e ∙ depth-here c x A us r G in
-      rw (append-assoc A (clearRow d r ∷ []) (map (clearRow d) (passed (deeper n) us)), f) at
-      (B .clears c (A ++ clearRow d r ∷ []) us k (omega arith) (R .clears c A us r G));
+        let f : n ≡ r .depth = e ∙ depth-here c x A us r G in
+        rw (append-assoc A (clearRow d r ∷ []) (map (clearRow d) (passed (deeper n) us)), f) at
+        (B .clears c (A ++ clearRow d r ∷ []) us k (omega arith) (R .clears c A us r G));
   }

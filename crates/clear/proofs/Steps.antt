@@ -28,7 +28,7 @@ use Rattle.tables.specs.Values.{strides-value, each-flat}
 use Rattle.tables.specs.declared.Counts.{Counts}
 use Rattle.clear.specs.declared.Cursor.{Cursor}
 use Rattle.clear.specs.Gapped.{Within, Gapped}
-use Rattle.clear.specs.Clear.{Pass, passing, Gaps, In, Starts, ClearsRow}
+use Rattle.clear.specs.Clear.{passing, In, ClearsRow}
 
 -- K laid behind X, over words of the gap G and of B, of which it is a part: the gap is then what is left of the two.
 keep-gap : (X G B Y K : List ℕ) (to : ℕ) → length X ≡ to → length K ≤ length (G ++ B)
@@ -149,11 +149,7 @@ module _ (c : Counts) (h m v : List ℕ) (p : Cursor) (A us : List Row) (r : Row
     gap-values′ : List ℕ
     gap-values′ = drop (length (eachValue (clearValues d (r .values)))) (G .gap-values ++ eachValue (r .values))
 
-    head-new : ℕ
-    head-new = headWord r % 128 + 128 * (to - p .marked) + 262144 * ((end - p .valued) / 6)
-
-    counts-right : head-new ≡ headWord (clearRow d r)
-    unfolding head-new
+    counts-right : headWord r % 128 + 128 * (to - p .marked) + 262144 * ((end - p .valued) / 6) ≡ headWord (clearRow d r)
     counts-right =
         omega (arith, clear-head d r narrow-here, K .next, L .next, each-length (clearValues d (r .values)))
 
@@ -161,7 +157,7 @@ module _ (c : Counts) (h m v : List ℕ) (p : Cursor) (A us : List Row) (r : Row
         → h′ ≡ set h (p .row) (headWord r % 128 + 128 * (to - p .marked) + 262144 * ((end - p .valued) / 6))
         → q ≡ record { row = p .row + 1; mark = p .mark + length (r .marks); marked = to; value = p .value + length (r .values) * 6; valued = end }
         → Gapped c h′ m′ v′ q (A ++ clearRow d r ∷ []) us
-    unfolding head-new gap′ gap-values′
+    unfolding gap′ gap-values′
     row-cleared h′ q e f =
         let a = ap length (marks-after d) ∙ length-append (marksOf A) (clearMarks d (r .marks)) in
         let b = ap length (values-after d) ∙ length-append (valuesOf A) (eachValue (clearValues d (r .values))) in
@@ -200,7 +196,7 @@ module _ (c : Counts) (h m v : List ℕ) (p : Cursor) (A us : List Row) (r : Row
         }
 
 -- What `clear_row` leaves: n marks and k values of the row were looked at.
-module _ (d : List ℕ) (rows : ℕ) (h m v : List ℕ) (p : Cursor) (S : Starts rows (passing h m v p)) (n k : ℕ)
+module _ (d h m v : List ℕ) (p : Cursor) (S : In (passing h m v p)) (n k : ℕ)
     (a : n ≡ marksAt (getD h (p .row) 0)) (b : k ≡ valuesAt (getD h (p .row) 0)) where
   module _ (c : Counts) (A us : List Row) (r : Row) (G : Gapped c h m v p A (r ∷ us)) where
     marks-looked : n ≡ length (r .marks)
@@ -214,10 +210,10 @@ module _ (d : List ℕ) (rows : ℕ) (h m v : List ℕ) (p : Cursor) (S : Starts
 
   onward-in : In (passing h m v onward)
   onward-in = record {
-    marks-low = S .within .marks-low;
-    marks-high = S .within .marks-high;
-    values-low = S .within .values-low;
-    values-high = S .within .values-high;
+    marks-low = S .marks-low;
+    marks-high = S .marks-high;
+    values-low = S .values-low;
+    values-high = S .values-high;
   }
 
   -- the row says more marks, or more values, than there can be: no tables hold such rows
@@ -225,14 +221,14 @@ module _ (d : List ℕ) (rows : ℕ) (h m v : List ℕ) (p : Cursor) (S : Starts
   short-marks l = record {
     next = refl;
     within = onward-in;
-    clears = λ c A us r G. absurd (omega (arith, marks-looked c A us r G, marks-room c h m v p A us r G, S .within .marks-high));
+    clears = λ c A us r G. absurd (omega (arith, marks-looked c A us r G, marks-room c h m v p A us r G, S .marks-high));
   }
 
   pub short-values : length v - p .value < k * 6 → ClearsRow d (passing h m v p) (passing h m v onward)
   short-values l = record {
     next = refl;
     within = onward-in;
-    clears = λ c A us r G. absurd (omega (arith, values-looked c A us r G, values-room c h m v p A us r G, S .within .values-high));
+    clears = λ c A us r G. absurd (omega (arith, values-looked c A us r G, values-room c h m v p A us r G, S .values-high));
   }
 
   abbrev beyond : ℕ → ℕ → Cursor
@@ -248,9 +244,9 @@ module _ (d : List ℕ) (rows : ℕ) (h m v : List ℕ) (p : Cursor) (S : Starts
   row-done to end m′ v′ e f K L s t = record {
     next = refl;
     within = record {
-      marks-low = omega (arith, K .high, S .within .marks-low);
+      marks-low = omega (arith, K .high, S .marks-low);
       marks-high = omega arith;
-      values-low = omega (arith, L .high, S .within .values-low);
+      values-low = omega (arith, L .high, S .values-low);
       values-high = omega arith;
     };
     clears = go;

@@ -61,7 +61,7 @@ pub record ClearsPlace (d : List ℕ) (rows left : ℕ) (x y : Pass) : Type 0 wh
 pub record Clears (d h m v : List ℕ) (c : Counts) (s : Stop) (h′ m′ v′ : List ℕ) (e : Counts) : Type 0 where
   pub holds : (k : List ℕ) (A R : List Row) (r : Row) → Holds (four h k m v) c (A ++ r ∷ R) → s ≡ behind A
       → Holds (four h′ k m′ v′) e
-        (A ++ clearRow d r ∷ (map (clearRow d) (passed (deeper (r .depth)) R) ++ rest (deeper (r .depth)) R))
+      (A ++ clearRow d r ∷ (map (clearRow d) (passed (deeper (r .depth)) R) ++ rest (deeper (r .depth)) R))
   pub rows-same : e .rows ≡ c .rows
   pub marks-fewer : e .marks ≤ c .marks
   pub values-fewer : e .values ≤ c .values

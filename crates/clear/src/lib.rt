@@ -9,7 +9,7 @@ use words::keep_marks;
 use words::keep_values;
 ghost use Prim.Native.Nat.{_<_};
 ghost use lib.ListN.{length};
-ghost use Rattle.clear.specs.Clear.{passing, Starts, ClearsRow, ClearsBranch, ClearsPlace, Clears};
+ghost use Rattle.clear.specs.Clear.{passing, In, Starts, ClearsRow, ClearsBranch, ClearsPlace, Clears};
 
 // Where a pass over the rows stands: the row, in marks and in values the word to read, and the word behind the last that stays.
 pub struct Cursor {
@@ -21,42 +21,76 @@ pub struct Cursor {
 }
 
 // Clears one row, and goes on to the next.
-fn clear_row(heads: &mut [u64], marks: &mut [u64], values: &mut [u64], rows: usize, p: Cursor, d: Counters) -> Cursor
-    requires { ⌜ Starts rows (passing (now heads) (now marks) (now values) p) × (p .row < rows) ⌝ }
-    ensures {
-        λ r. ⌜ ClearsRow (d .at) (passing (now (heads .entry)) (now (marks .entry)) (now (values .entry)) p)
-        (passing (now (heads .exit)) (now (marks .exit)) (now (values .exit)) r) ⌝
-    }
+fn clear_row(
+    heads: &mut [u64],
+    marks: &mut [u64],
+    values: &mut [u64],
+    p: Cursor,
+    d: Counters,
+) -> Cursor
+    requires { ⌜ In (passing (now heads) (now marks) (now values) p) × (p .row < length (now heads)) ⌝ }
+    ensures { λ r. ⌜ ClearsRow (d .at) (passing (now (heads .entry)) (now (marks .entry)) (now (values .entry)) p)
+        (passing (now (heads .exit)) (now (marks .exit)) (now (values .exit)) r) ⌝ }
 {
     let row = p.row;
+    let next = row + 1;
     let h = heads[row];
     let n = (h / 128 % 2048) as usize;
     let k = (h / 262144 % 512) as usize;
     let from = p.mark;
     let start = p.value;
+    let words = k * 6;
     if marks.len() - from < n {
-        return Cursor { row: row + 1, mark: from, marked: p.marked, value: start, valued: p.valued };
+        return Cursor {
+            row: next,
+            mark: from,
+            marked: p.marked,
+            value: start,
+            valued: p.valued,
+        };
     }
-    if values.len() - start < k * 6 {
-        return Cursor { row: row + 1, mark: from, marked: p.marked, value: start, valued: p.valued };
+    if values.len() - start < words {
+        return Cursor {
+            row: next,
+            mark: from,
+            marked: p.marked,
+            value: start,
+            valued: p.valued,
+        };
     }
     let to = keep_marks(marks, from, n, p.marked, d);
     let end = keep_values(values, start, k, p.valued, d);
-    heads[row] = h % 128 + 128 * (to - p.marked) as u64 + 262144 * ((end - p.valued) / 6) as u64;
-    Cursor { row: row + 1, mark: from + n, marked: to, value: start + k * 6, valued: end }
+    let stay = (to - p.marked) as u64;
+    let values_stay = ((end - p.valued) / 6) as u64;
+    heads[row] = h % 128 + 128 * stay + 262144 * values_stay;
+    let read = from + n;
+    let values_read = start + words;
+    Cursor {
+        row: next,
+        mark: read,
+        marked: to,
+        value: values_read,
+        valued: end,
+    }
 }
 
 // Clears the place at the cursor, which goes on behind its block. Levels are left for what hangs under it.
-fn clear_place(heads: &mut [u64], marks: &mut [u64], values: &mut [u64], rows: usize, p: Cursor, d: Counters, left: usize) -> Cursor
+fn clear_place(
+    heads: &mut [u64],
+    marks: &mut [u64],
+    values: &mut [u64],
+    rows: usize,
+    p: Cursor,
+    d: Counters,
+    left: usize,
+) -> Cursor
     requires { ⌜ Starts rows (passing (now heads) (now marks) (now values) p) × (p .row < rows) ⌝ }
-    ensures {
-        λ r. ⌜ ClearsPlace (d .at) rows left (passing (now (heads .entry)) (now (marks .entry)) (now (values .entry)) p)
-        (passing (now (heads .exit)) (now (marks .exit)) (now (values .exit)) r) ⌝
-    }
+    ensures { λ r. ⌜ ClearsPlace (d .at) rows left (passing (now (heads .entry)) (now (marks .entry)) (now (values .entry)) p)
+        (passing (now (heads .exit)) (now (marks .exit)) (now (values .exit)) r) ⌝ }
 {
     let row = p.row;
     let n = heads[row] % 16;
-    let q = clear_row(heads, marks, values, rows, p, d);
+    let q = clear_row(heads, marks, values, p, d);
     clear_branch(heads, marks, values, rows, q, d, n, left)
 }
 
@@ -72,10 +106,8 @@ fn clear_branch(
     left: usize,
 ) -> Cursor
     requires { ⌜ Starts rows (passing (now heads) (now marks) (now values) p) ⌝ }
-    ensures {
-        λ r. ⌜ ClearsBranch (d .at) rows n left (passing (now (heads .entry)) (now (marks .entry)) (now (values .entry)) p)
-        (passing (now (heads .exit)) (now (marks .exit)) (now (values .exit)) r) ⌝
-    }
+    ensures { λ r. ⌜ ClearsBranch (d .at) rows n left (passing (now (heads .entry)) (now (marks .entry)) (now (values .entry)) p)
+        (passing (now (heads .exit)) (now (marks .exit)) (now (values .exit)) r) ⌝ }
 {
     if left == 0 {
         return p;
@@ -92,11 +124,16 @@ fn clear_branch(
 }
 
 // Clears the place at s with all that hangs under it, and answers the counts that are left.
-pub fn clear_block(heads: &mut [u64], marks: &mut [u64], values: &mut [u64], c: Counts, s: Stop, d: Counters) -> Counts
-    ensures {
-        λ e. ⌜ Clears (d .at) (now (heads .entry)) (now (marks .entry)) (now (values .entry)) c s (now (heads .exit)) (now (marks .exit))
-        (now (values .exit)) e ⌝
-    }
+pub fn clear_block(
+    heads: &mut [u64],
+    marks: &mut [u64],
+    values: &mut [u64],
+    c: Counts,
+    s: Stop,
+    d: Counters,
+) -> Counts
+    ensures { λ e. ⌜ Clears (d .at) (now (heads .entry)) (now (marks .entry)) (now (values .entry)) c s (now (heads .exit)) (now (marks .exit))
+        (now (values .exit)) e ⌝ }
 {
     let rows = c.rows;
     let live = c.marks;
@@ -122,7 +159,13 @@ pub fn clear_block(heads: &mut [u64], marks: &mut [u64], values: &mut [u64], c: 
     }
     let words = c.values * 6;
     let value = s.value * 6;
-    let p = Cursor { row: row, mark: mark, marked: mark, value: value, valued: value };
+    let p = Cursor {
+        row: row,
+        mark: mark,
+        marked: mark,
+        value: value,
+        valued: value,
+    };
     let q = clear_place(heads, marks, values, rows, p, d, 8);
     if q.mark > live {
         return c;
@@ -134,5 +177,11 @@ pub fn clear_block(heads: &mut [u64], marks: &mut [u64], values: &mut [u64], c: 
     let gone_words = q.value - q.valued;
     close(marks, live, q.mark, q.marked);
     close(values, words, q.value, q.valued);
-    Counts { rows: rows, marks: live - gone, values: (words - gone_words) / 6 }
+    let left = live - gone;
+    let words_left = words - gone_words;
+    Counts {
+        rows: rows,
+        marks: left,
+        values: words_left / 6,
+    }
 }

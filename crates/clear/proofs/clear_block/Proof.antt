@@ -6,78 +6,61 @@ use Rattle.clear.specs.Clear.{passing}
 use Rattle.clear.proofs.Block.{not-sitting, far-marks, far-values, block-done}
 use Rattle.clear.proofs.clear_block.Statement.{statement}
 use Rattle.clear.proofs.clear_block.Tie as tie
-use Rattle.clear.proofs.clear_block.Reads as reads
-use Rattle.clear.proofs.clear_block.Lts as lts
-use Rattle.clear.proofs.clear_place.Reads as clear-place-reads
-use Rattle.words.proofs.close.Reads as close-reads
 
--- src/lib.rt:106:9
 returns : tie.Need-returns
 returns c =
     let a = c .before .before .before .before in
     let t = c .if1 .taken in
     not-sitting (a .args .d .at) (a .args .heads .now) (a .args .marks .now) (a .args .values .now) (a .args .c) (a .args .s) (λ z. omega arith)
 
--- src/lib.rt:109:9
 returns-2 : tie.Need-returns-2
 returns-2 c =
     let a = c .before .before .before .before .before in
     let t = c .if2 .taken in
     not-sitting (a .args .d .at) (a .args .heads .now) (a .args .marks .now) (a .args .values .now) (a .args .c) (a .args .s) (λ z. omega arith)
 
--- src/lib.rt:112:9
 returns-3 : tie.Need-returns-3
 returns-3 c =
     let a = c .before .before .before .before .before .before in
     let t = c .if3 .taken in
     not-sitting (a .args .d .at) (a .args .heads .now) (a .args .marks .now) (a .args .values .now) (a .args .c) (a .args .s) (λ z. omega arith)
 
--- src/lib.rt:115:9
 returns-4 : tie.Need-returns-4
 returns-4 c =
     let a = c .before .before .before .before .before .before .before in
     let t = c .if4 .taken in
     not-sitting (a .args .d .at) (a .args .heads .now) (a .args .marks .now) (a .args .values .now) (a .args .c) (a .args .s) (λ z. omega arith)
 
--- src/lib.rt:118:9
 returns-5 : tie.Need-returns-5
 returns-5 c =
     let a = c .before .before .before .before .before .before .before .before .before in
     let t = c .if5 .taken in
     not-sitting (a .args .d .at) (a .args .heads .now) (a .args .marks .now) (a .args .values .now) (a .args .c) (a .args .s) (λ z. omega arith)
 
--- src/lib.rt:121:9
 returns-6 : tie.Need-returns-6
 returns-6 c =
     let a = c .before .before .before .before .before .before .before .before .before .before .before .before in
     let t = c .if6 .taken in
     not-sitting (a .args .d .at) (a .args .heads .now) (a .args .marks .now) (a .args .values .now) (a .args .c) (a .args .s) (λ z. omega arith)
 
--- src/lib.rt:123:17
 mul-words : tie.Need-mul-words
 mul-words c = search needs
 
--- src/lib.rt:124:17
 mul-value : tie.Need-mul-value
 mul-value c = search needs
 
--- src/lib.rt:126:9
 clear-place-requires : tie.Need-clear-place-requires
 clear-place-requires c κs = search needs
 
--- src/lib.rt:128:9
 same-length : tie.Need-same-length
 same-length c = search needs
 
--- src/lib.rt:128:9
 same-length-2 : tie.Need-same-length-2
 same-length-2 c = search needs
 
--- src/lib.rt:128:9
 same-length-3 : tie.Need-same-length-3
 same-length-3 c = search needs
 
--- src/lib.rt:128:9
 returns-7 : tie.Need-returns-7
 returns-7 c =
     let a = c .before .before .before .before .before .before .before .before .before .before .before .before .before .before .before .before .before .before .before .before .before .before .before .before .before .before in
@@ -85,19 +68,15 @@ returns-7 c =
     let y = passing (p .last .0) (p .last .1 .0) (p .last .1 .1 .0) (p .result) in
     far-marks (a .args .d .at) (a .args .heads .now) (a .args .marks .now) (a .args .values .now) (a .args .c) (a .args .s) y (p .ensures) (c .if7 .taken)
 
--- src/lib.rt:131:9
 same-length-4 : tie.Need-same-length-4
 same-length-4 c = search needs
 
--- src/lib.rt:131:9
 same-length-5 : tie.Need-same-length-5
 same-length-5 c = search needs
 
--- src/lib.rt:131:9
 same-length-6 : tie.Need-same-length-6
 same-length-6 c = search needs
 
--- src/lib.rt:131:9
 returns-8 : tie.Need-returns-8
 returns-8 c =
     let a = c .before .before .before .before .before .before .before .before .before .before .before .before .before .before .before .before .before .before .before .before .before .before .before .before .before .before .before .before in
@@ -105,15 +84,12 @@ returns-8 c =
     let y = passing (p .last .0) (p .last .1 .0) (p .last .1 .1 .0) (p .result) in
     far-values (a .args .d .at) (a .args .heads .now) (a .args .marks .now) (a .args .values .now) (a .args .c) (a .args .s) y (p .ensures) (c .if8 .taken)
 
--- src/lib.rt:133:16
 sub-gone : tie.Need-sub-gone
 sub-gone c = search needs
 
--- src/lib.rt:134:22
 sub-gone-words : tie.Need-sub-gone-words
 sub-gone-words c = search needs
 
--- src/lib.rt:135:5
 close-requires : tie.Need-close-requires
 close-requires c κs =
     let p = c .before .before .before .before .before .before .before .before .before .before .before .before .before .clear-place in
@@ -123,7 +99,6 @@ close-requires c κs =
     let j = c .before .before .before .before .before .before .before .before .before .before .before .before .before .before .before .before .before .before .before .before .before .before .before .before .before .if3 .left in
     (w .marks-low, i, omega arith)
 
--- src/lib.rt:136:5
 close-requires-2 : tie.Need-close-requires-2
 close-requires-2 c κs =
     let p = c .before .before .before .before .before .before .before .before .before .before .before .before .before .before .before .before .before .clear-place in
@@ -133,27 +108,21 @@ close-requires-2 c κs =
     let j = c .before .before .before .before .before .before .before .before .before .before .before .before .before .before .before .before .before .before .before .before .before .before .before .before .before .before .if5 .left in
     (w .values-low, i, omega arith)
 
--- src/lib.rt:137:33
-sub-t17 : tie.Need-sub-t17
-sub-t17 c = search needs
+sub-left : tie.Need-sub-left
+sub-left c = search needs
 
--- src/lib.rt:137:55
-sub-t19 : tie.Need-sub-t19
-sub-t19 c = search needs
+sub-words-left : tie.Need-sub-words-left
+sub-words-left c = search needs
 
--- src/lib.rt:95:1
 same-length-7 : tie.Need-same-length-7
 same-length-7 c = search needs
 
--- src/lib.rt:95:1
 same-length-8 : tie.Need-same-length-8
 same-length-8 c = search needs
 
--- src/lib.rt:95:1
 same-length-9 : tie.Need-same-length-9
 same-length-9 c = search needs
 
--- src/lib.rt:95:1
 returns-9 : tie.Need-returns-9
 returns-9 c =
     let a = c .before .before .before .before .before .before .before .before .before .before .before .before .before .before .before .before .before .before .before .before .before .before .before .before .before .before .before .before .before .before .before .before .before .before .before .before .before .before in
@@ -186,8 +155,8 @@ clear-block-spec =
     sub-gone-words
     close-requires
     close-requires-2
-    sub-t17
-    sub-t19
+    sub-left
+    sub-words-left
     same-length-7
     same-length-8
     same-length-9
