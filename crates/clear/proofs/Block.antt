@@ -5,8 +5,7 @@ use native.Mathlib.Nat.{add-zero}
 use native.Mathlib.Omega.{arith}
 use mathlib.Core.Path.{_≡_, refl, sym, ap, _∙_}
 use mathlib.Core.List.{List, [], _∷_, _++_, map, append-assoc}
-use lib.ListN.{length, replicate, length-append, length-replicate, replicate-append-replicate}
-use Rattle.meaning.specs.Load.{marksIn, valuesIn}
+use lib.ListN.{length, replicate, length-append, replicate-append-replicate}
 use Rattle.meaning.specs.Sheet.{Row}
 use Rattle.theorems.specs.Accepting.{marks-append, values-append}
 use Rattle.rows.specs.Blocks.{passed, rest, deeper, clearRow}
@@ -16,12 +15,12 @@ use Rattle.words.proofs.Over.{over-none, keep-close, shrunk-parts}
 use Rattle.tables.specs.Words.{spotWords, headsOf, keysOf, marksOf, valuesOf, pad}
 use Rattle.tables.specs.Standing.{behind, keys-append, heads-length}
 use Rattle.tables.specs.Holding.{headsRoom, keysRoom, marksRoom, valuesRoom, Good, Holds, four}
-use Rattle.tables.specs.Parts.{marks-length, values-length, marks-of-append, values-of-append, At, at-behind, all-left, all-right, all-both}
+use Rattle.tables.specs.Parts.{marks-length, values-length, marks-of-append, values-of-append, at-behind, all-left, all-right, all-both}
 use Rattle.tables.specs.Parts.{heads-long, marks-long, values-long}
 use Rattle.tables.specs.declared.Counts.{Counts}
 use Rattle.tables.specs.declared.Stop.{Stop}
 use Rattle.clear.specs.declared.Cursor.{Cursor}
-use Rattle.clear.specs.Gapped.{Within, Gapped}
+use Rattle.clear.specs.Gapped.{Gapped}
 use Rattle.clear.specs.Clear.{Pass, passing, Gaps, ClearsPlace, Clears}
 
 -- The words that a gap leaves free go behind the live ones.

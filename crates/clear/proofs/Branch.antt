@@ -2,11 +2,11 @@
 -- Assumes nothing.
 use Prim.Native.Nat.{ℕ, suc, _+_, _-_, _%_, _≤_, _<_}
 use native.Mathlib.Omega.{arith}
-use mathlib.Core.Path.{_≡_, refl, sym, ap, subst, _∙_}
+use mathlib.Core.Path.{_≡_, refl, sym, ap, _∙_}
 use mathlib.Core.Bool.{Bool, true, false, cond}
 use mathlib.Core.List.{List, [], _∷_, _++_, map, append-assoc, append-nil, map-append}
 use lib.Dec.{ltb}
-use lib.ListN.{length, getD, length-append}
+use lib.ListN.{length, getD}
 use borrow.Author.Tests.{ltb-true}
 use Rattle.meaning.specs.Members.{All}
 use Rattle.meaning.specs.Sheet.{Row}
@@ -18,8 +18,7 @@ use Rattle.rows.specs.Spans.{Splits, split-all, deep-deeper, Shallow, shallow-s
 use Rattle.tables.specs.Finds.{depth-in}
 use Rattle.tables.specs.Holding.{Good}
 use Rattle.tables.specs.declared.Counts.{Counts}
-use Rattle.clear.specs.Gapped.{Within, Gapped}
-use Rattle.clear.specs.Clear.{Pass, passing, Gaps, In, Starts, ClearsRow, ClearsBranch, ClearsPlace}
+use Rattle.clear.specs.Clear.{Pass, Gaps, Starts, ClearsRow, ClearsBranch, ClearsPlace}
 use Rattle.clear.proofs.Steps.{head-here, narrow-here}
 
 -- of the rows us those that are done have been cleared, all of them deeper than n

@@ -40,23 +40,18 @@ fn clear_row(
     let from = p.mark;
     let start = p.value;
     let words = k * 6;
+    let skipped = Cursor {
+        row: next,
+        mark: from,
+        marked: p.marked,
+        value: start,
+        valued: p.valued,
+    };
     if marks.len() - from < n {
-        return Cursor {
-            row: next,
-            mark: from,
-            marked: p.marked,
-            value: start,
-            valued: p.valued,
-        };
+        return skipped;
     }
     if values.len() - start < words {
-        return Cursor {
-            row: next,
-            mark: from,
-            marked: p.marked,
-            value: start,
-            valued: p.valued,
-        };
+        return skipped;
     }
     let to = keep_marks(marks, from, n, p.marked, d);
     let end = keep_values(values, start, k, p.valued, d);
@@ -132,8 +127,8 @@ pub fn clear_block(
     s: Stop,
     d: Counters,
 ) -> Counts
-    ensures { λ e. ⌜ Clears (d .at) (now (heads .entry)) (now (marks .entry)) (now (values .entry)) c s (now (heads .exit)) (now (marks .exit))
-        (now (values .exit)) e ⌝ }
+    ensures { λ e. ⌜ Clears (d .at) (now (heads .entry)) (now (marks .entry)) (now (values .entry)) c s
+        (now (heads .exit)) (now (marks .exit)) (now (values .exit)) e ⌝ }
 {
     let rows = c.rows;
     let live = c.marks;

@@ -1,8 +1,8 @@
--- `clear::clear_row` meets its contract: what it leaves is said by proofs/Steps. Assumes nothing.
+-- `clear::clear_row` meets its contract: what it leaves is said by proofs/Row. Assumes nothing.
 use mathlib.Core.Path.{refl}
 use native.Mathlib.Omega.{arith}
 use borrow.Author.Needs.{needs}
-use Rattle.clear.proofs.Steps.{short-marks, short-values, row-done}
+use Rattle.clear.proofs.Row.{short-marks, short-values, row-done}
 use Rattle.clear.proofs.clear_row.Statement.{statement}
 use Rattle.clear.proofs.clear_row.Tie as tie
 
