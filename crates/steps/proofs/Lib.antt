@@ -1,2 +1,4 @@
 pub mod Heads
 pub mod Changed
+pub mod Padded
+pub mod Opened

@@ -50,13 +50,22 @@ pub fn open_row(heads: &mut [u64], keys: &mut [u64], c: Counts, at: usize, depth
     }
 {
     let rows = c.rows;
-    if rows >= 264 || at > rows {
+    if rows >= 264 {
         return c;
     }
-    if depth > 8 || side > 1 {
+    if at > rows {
         return c;
     }
-    if heads.len() < rows + 1 || keys.len() < 3 * rows + 3 {
+    if depth > 8 {
+        return c;
+    }
+    if side > 1 {
+        return c;
+    }
+    if heads.len() <= rows {
+        return c;
+    }
+    if keys.len() < 3 * rows + 3 {
         return c;
     }
     open(heads, rows, at, 1);
