@@ -2,3 +2,8 @@ pub mod Heads
 pub mod Changed
 pub mod Padded
 pub mod Opened
+pub mod Placed
+pub mod Marked
+pub mod Values
+pub mod Dropped
+pub mod Added
