@@ -1,6 +1,6 @@
 -- Tables that hold rows, of which one has a value more.
 -- Assumes nothing.
-use Prim.Native.Nat.{ℕ, _+_, _*_, _-_, _≤_, _<_}
+use Prim.Native.Nat.{ℕ, _+_, _*_, _-_, _≤_}
 use native.Mathlib.Omega.{arith}
 use mathlib.Core.Path.{_≡_, refl, sym, ap, _∙_}
 use mathlib.Core.List.{List, [], _∷_, _++_}
@@ -15,8 +15,8 @@ use Rattle.rows.specs.Blocks.{addRow}
 use Rattle.words.specs.Words.{overAt, opened, inserted}
 use Rattle.words.specs.Rows.{rankOf, rankRows, Ranked}
 use Rattle.words.proofs.Over.{open-write}
-use Rattle.tables.specs.Words.{headWord, valueWords, valuesAt, marksOf, valuesOf, pad}
-use Rattle.tables.specs.Holding.{marksRoom, valuesRoom, Good, Holds}
+use Rattle.tables.specs.Words.{headWord, valueWords, valuesAt, valuesOf, pad}
+use Rattle.tables.specs.Holding.{marksRoom, valuesRoom}
 use Rattle.tables.specs.Parts.{at-behind, plain-six}
 use Rattle.tables.specs.declared.Counts.{Counts}
 use Rattle.tables.specs.declared.Stop.{Stop}

@@ -1,20 +1,19 @@
 -- Tables that hold rows, one of which is changed: its head is written anew, its marks and its values may be others, its spot stays.
 -- Assumes nothing.
-use Prim.Native.Nat.{ℕ, _+_, _*_, _-_, _≤_, _<_}
+use Prim.Native.Nat.{ℕ, _+_, _-_, _≤_, _<_}
 use native.Mathlib.Omega.{arith}
 use mathlib.Core.Path.{_≡_, refl, sym, ap, _∙_}
 use mathlib.Core.Bool.{Bool, true, false}
-use mathlib.Core.List.{List, [], _∷_, _++_}
+use mathlib.Core.List.{List, _∷_, _++_}
 use lib.ListN.{length, set, getD, replicate, length-append}
 use lib.Seq.{set-at, getD-at}
-use Rattle.meaning.specs.Members.{All}
 use Rattle.meaning.specs.Load.{marksIn, valuesIn}
 use Rattle.meaning.specs.Sheet.{Row}
 use Rattle.theorems.specs.Accepting.{marks-append, values-append}
 use Rattle.tables.specs.Words.{headWord, headsOf, keysOf, marksOf, valuesOf, eachValue, spotWords, pad, Tables}
-use Rattle.tables.specs.Standing.{heads-append, keys-append, heads-length}
+use Rattle.tables.specs.Standing.{keys-append, heads-length}
 use Rattle.tables.specs.Holding.{headsRoom, keysRoom, marksRoom, valuesRoom, Good, Holds, four, flagRow}
-use Rattle.tables.specs.Parts.{marks-of-append, values-of-append, all-left, all-right, all-both, heads-long, heads-parts, marks-parts, values-parts}
+use Rattle.tables.specs.Parts.{marks-of-append, values-of-append, all-left, all-right, all-both, heads-long, heads-parts}
 use Rattle.tables.specs.declared.Counts.{Counts}
 use Rattle.steps.specs.Steps.{FlagsHead, Flags}
 

@@ -1,11 +1,12 @@
 -- Tables that hold rows, of which one has fewer values.
 -- Assumes nothing.
-use Prim.Native.Nat.{ℕ, _+_, _*_, _-_, _/_, _≤_, _<_}
+use Prim.Native.Nat.{ℕ, _+_, _*_, _-_, _/_, _≤_}
 use native.Mathlib.Omega.{arith}
 use mathlib.Core.Path.{_≡_, refl, sym, ap, _∙_}
-use mathlib.Core.List.{List, [], _∷_, _++_}
+use mathlib.Core.List.{List, _∷_, _++_}
 use lib.ListN.{length, set, getD, drop}
 use Rattle.meaning.specs.Ids.{uncovered}
+use Rattle.meaning.specs.Load.{valuesIn}
 use Rattle.meaning.specs.Clear.{clearValues}
 use Rattle.meaning.specs.Members.{idOfValue}
 use Rattle.meaning.specs.Places.{Value}
@@ -13,19 +14,19 @@ use Rattle.meaning.specs.Sets.{keep}
 use Rattle.meaning.specs.Sheet.{Row}
 use Rattle.theorems.specs.Members.{asc-keep, keep-length}
 use Rattle.rows.specs.Blocks.{dropRow}
-use Rattle.words.specs.Words.{closed, shrunk}
+use Rattle.words.specs.Words.{closed}
 use Rattle.words.specs.Rows.{keepRows, flat, Kept}
 use Rattle.words.proofs.Flat.{flat-length}
 use Rattle.words.proofs.Tables.{kept-closed}
-use Rattle.tables.specs.Words.{headWord, valueWords, valuesAt, marksOf, valuesOf, pad}
-use Rattle.tables.specs.Holding.{marksRoom, valuesRoom, Good, Holds}
+use Rattle.tables.specs.Words.{headWord, valueWords, valuesAt, valuesOf, pad}
+use Rattle.tables.specs.Holding.{marksRoom, valuesRoom}
 use Rattle.tables.specs.Parts.{at-behind}
 use Rattle.tables.specs.declared.Counts.{Counts}
 use Rattle.tables.specs.declared.Stop.{Stop}
 use Rattle.steps.specs.Steps.{Drops}
 use Rattle.steps.proofs.Changed.{marks-same, changed}
 use Rattle.steps.proofs.Placed.{placed}
-use Rattle.steps.proofs.Values.{strides-values, among, among-is, kept-is, values-kept}
+use Rattle.steps.proofs.Values.{strides-values, among-is, kept-is, values-kept}
 
 pub drops : (s : Stop) (d : List ℕ) (n end gone : ℕ) (c : Counts) (h v v₁ v₂ : List ℕ) → 6 * c .values ≤ length v → s .value ≤ c .values
     → n ≤ c .values - s .value → n ≡ valuesAt (getD h (s .row) 0)
@@ -41,7 +42,7 @@ drops s d n end gone c h v v₁ v₂ a b x y K o z k m A R r H t =
     let F : ℕ = 6 * s .value in
     let left : List Value = keep (λ v. uncovered d (v .id)) (r .values) in
     let i : n ≡ length (r .values) = y ∙ P .values in
-    let f : F ≡ 6 * Rattle.meaning.specs.Load.valuesIn A = omega (arith, p .value) in
+    let f : F ≡ 6 * valuesIn A = omega (arith, p .value) in
     let w : keepRows 6 (uncovered d) n (drop F v) ≡ flat valueWords left = rw i (kept-is A R r v (H .values) F f (uncovered d)) in
     let u : length (flat valueWords left) ≡ length left * 6 = flat-length 6 valueWords idOfValue strides-values left in
     let j : length left ≤ length (r .values) = keep-length (λ v. uncovered d (v .id)) (r .values) in

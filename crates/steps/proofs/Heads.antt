@@ -1,11 +1,10 @@
 -- A head's word, changed by sums: a flag set, a mark more, a value more or fewer.
 -- Assumes nothing.
-use Prim.Native.Nat.{ℕ, _+_, _*_, _-_, _/_, _%_, _≤_, _<_}
+use Prim.Native.Nat.{ℕ, _+_}
 use native.Mathlib.Omega.{arith}
-use mathlib.Core.Path.{_≡_, refl, sym, ap, _∙_}
+use mathlib.Core.Path.{_≡_}
 use mathlib.Core.Bool.{true, false}
-use Rattle.meaning.specs.Sheet.{Row}
-use Rattle.tables.specs.Words.{bit, side, headWord, mapIn, listIn}
+use Rattle.tables.specs.Words.{mapIn, listIn}
 use Rattle.tables.specs.Finds.{bit-small, side-small}
 use Rattle.steps.specs.Steps.{FlagsHead}
 

@@ -1,6 +1,6 @@
 -- Tables that hold rows, of which one has a mark more.
 -- Assumes nothing.
-use Prim.Native.Nat.{ℕ, _+_, _*_, _-_, _≤_, _<_}
+use Prim.Native.Nat.{ℕ, _+_, _-_, _≤_, _<_}
 use native.Mathlib.Omega.{arith}
 use mathlib.Core.Path.{_≡_, refl, sym, ap, _∙_}
 use mathlib.Core.List.{List, [], _∷_, _++_}
@@ -12,20 +12,19 @@ use Rattle.meaning.specs.Sheet.{Row}
 use Rattle.theorems.specs.Members.{asc-put}
 use Rattle.rows.specs.Blocks.{markRow}
 use Rattle.words.specs.Words.{run, opened, inserted}
-use Rattle.words.specs.Rows.{rankOf, flat, Ranked}
+use Rattle.words.specs.Rows.{rankOf, Ranked}
 use Rattle.words.proofs.Over.{run-parts}
 use Rattle.words.proofs.Flat.{alone, flat-own, strides-own}
 use Rattle.words.proofs.Tables.{open-one}
 use Rattle.tables.specs.Words.{headWord, marksAt, marksOf, pad}
-use Rattle.tables.specs.Standing.{behind}
-use Rattle.tables.specs.Holding.{marksRoom, valuesRoom, Good, Holds, four}
+use Rattle.tables.specs.Holding.{marksRoom, valuesRoom}
 use Rattle.tables.specs.Parts.{at-behind, marks-length, marks-of-append, marks-parts}
 use Rattle.tables.specs.declared.Counts.{Counts}
 use Rattle.tables.specs.declared.Stop.{Stop}
 use Rattle.steps.specs.Steps.{Marks}
 use Rattle.steps.proofs.Padded.{put-more, put-pad}
 use Rattle.steps.proofs.Changed.{marks-between, values-same, changed}
-use Rattle.steps.proofs.Placed.{Placed, placed}
+use Rattle.steps.proofs.Placed.{placed}
 
 module _ (A R : List Row) (r : Row) (m : List ℕ) (e : m ≡ pad marksRoom (marksOf (A ++ r ∷ R))) (from : ℕ) (f : from ≡ marksIn A) where
   -- the row's marks

@@ -5,15 +5,13 @@ use native.Mathlib.Omega.{arith}
 use mathlib.Core.Path.{_≡_, refl, sym, ap, _∙_}
 use mathlib.Core.List.{List, [], _∷_, _++_}
 use lib.ListN.{length, set, length-append}
-use Rattle.meaning.specs.Load.{marksIn, valuesIn}
-use Rattle.meaning.specs.Sheet.{Spot, Row}
+use Rattle.meaning.specs.Sheet.{Row}
 use Rattle.theorems.specs.Accepting.{marks-append, values-append}
 use Rattle.rows.specs.Blocks.{newRow}
 use Rattle.words.specs.Words.{overAt, opened, inserted}
 use Rattle.words.proofs.Over.{open-write}
 use Rattle.words.proofs.Tables.{open-one}
-use Rattle.tables.specs.Words.{side, headWord, spotWords, headsOf, keysOf, marksOf, valuesOf, pad}
-use Rattle.tables.specs.Finds.{GoodSpot}
+use Rattle.tables.specs.Words.{headWord, spotWords, eachValue, headsOf, keysOf, marksOf, valuesOf, pad}
 use Rattle.tables.specs.Standing.{heads-append, keys-append, heads-length, keys-length}
 use Rattle.tables.specs.Holding.{headsRoom, keysRoom, marksRoom, valuesRoom, Good, Holds, four}
 use Rattle.tables.specs.Parts.{marks-of-append, values-of-append, all-left, all-right, all-both, heads-long, keys-long}
@@ -67,9 +65,9 @@ module _ (A R : List Row) (r : Row) where
       marks-of-append A R ∙ (ap (λ (l : List ℕ). marksOf A ++ (l ++ marksOf R)) (sym e) ∙ sym (marks-of-append A (r ∷ R)))
 
   values-stay : r .values ≡ [] → valuesOf (A ++ R) ≡ valuesOf (A ++ r ∷ R)
-  unfolding valuesOf Rattle.tables.specs.Words.eachValue
+  unfolding valuesOf eachValue
   values-stay e =
-      values-of-append A R ∙ (ap (λ l. valuesOf A ++ (Rattle.tables.specs.Words.eachValue l ++ valuesOf R)) (sym e) ∙ sym (values-of-append A (r ∷ R)))
+      values-of-append A R ∙ (ap (λ l. valuesOf A ++ (eachValue l ++ valuesOf R)) (sym e) ∙ sym (values-of-append A (r ∷ R)))
 
 pub opens : (at depth s hi lo len : ℕ) (c : Counts) (h h₁ k k₁ k₂ : List ℕ) → at ≤ c .rows → c .rows < length h → 3 * c .rows + 3 ≤ length k
     → h₁ ≡ opened (c .rows) at 1 h → k₁ ≡ opened (3 * c .rows) (3 * at) 3 k → k₂ ≡ overAt (3 * at) (hi ∷ lo ∷ len ∷ []) k₁

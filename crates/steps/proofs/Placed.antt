@@ -1,20 +1,20 @@
 -- What is known of a row that stands behind others in tables that hold them: its head says how many marks and values it has, and these are
 -- among the live ones.
 -- Assumes nothing.
-use Prim.Native.Nat.{ℕ, _+_, _*_, _≤_, _<_}
+use Prim.Native.Nat.{_+_, _≤_, _<_}
 use native.Mathlib.Omega.{arith}
-use mathlib.Core.Path.{_≡_, refl, sym, ap, _∙_}
+use mathlib.Core.Path.{_≡_}
 use mathlib.Core.List.{List, [], _∷_, _++_}
 use lib.ListN.{length, getD}
 use Rattle.meaning.specs.Sheet.{Row}
 use Rattle.tables.specs.Words.{headWord, marksAt, valuesAt, Tables}
 use Rattle.tables.specs.Finds.{Narrow, AllNarrow, bit-small, side-small, marks-in, values-in}
 use Rattle.tables.specs.Standing.{behind}
-use Rattle.tables.specs.Holding.{Good, Holds, four}
+use Rattle.tables.specs.Holding.{Good, Holds}
 use Rattle.tables.specs.Parts.{at-behind, holds-narrow, all-right, marks-long, values-long}
 use Rattle.tables.specs.declared.Counts.{Counts}
 use Rattle.tables.specs.declared.Stop.{Stop}
-use Rattle.steps.proofs.Changed.{marks-between, values-between, rows-between, head-at, row-in}
+use Rattle.steps.proofs.Changed.{marks-between, values-between, head-at, row-in}
 
 pub record Placed (T : Tables) (c : Counts) (s : Stop) (r : Row) : Type 0 where
   pub row : s .row < length (T .heads)

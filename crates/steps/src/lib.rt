@@ -1,5 +1,5 @@
-// The single steps over the document's tables that change one row, or open one. Each is safe on any memory: where the counts, the place and
-// the tables don't go together it leaves them as they are. What it promises of tables that hold rows is said by specs/Steps.
+// The single steps over the document's tables that change one row, or open one. Each is safe on any memory: a place, a
+// count or a table that doesn't fit is found before the first word is written. What they promise of tables that hold rows says specs/Steps.
 use meaning::Counters;
 use tables::Counts;
 use tables::Stop;
@@ -8,8 +8,8 @@ use words::keep_values;
 use words::open;
 use words::rank;
 use words::rank_values;
-use words::write3;
 use words::write_words;
+use words::write3;
 ghost use Prim.Native.Nat.{_/_, _%_, _≤_, _<_};
 ghost use mathlib.Core.Path.{_≡_};
 ghost use mathlib.Core.List.{[], _∷_};
@@ -44,11 +44,19 @@ pub fn flag_row(heads: &mut [u64], row: usize, list: bool)
 }
 
 // Opens a row without flags, marks and values before row `at`.
-pub fn open_row(heads: &mut [u64], keys: &mut [u64], c: Counts, at: usize, depth: u64, side: u64, hi: u64, lo: u64, len: u64) -> Counts
-    ensures {
-        λ r.
-        ⌜ Opens at depth side (hi ∷ lo ∷ len ∷ []) c (now (heads .entry)) (now (keys .entry)) r (now (heads .exit)) (now (keys .exit)) ⌝
-    }
+pub fn open_row(
+    heads: &mut [u64],
+    keys: &mut [u64],
+    c: Counts,
+    at: usize,
+    depth: u64,
+    side: u64,
+    hi: u64,
+    lo: u64,
+    len: u64,
+) -> Counts
+    ensures { λ r.
+        ⌜ Opens at depth side (hi ∷ lo ∷ len ∷ []) c (now (heads .entry)) (now (keys .entry)) r (now (heads .exit)) (now (keys .exit)) ⌝ }
 {
     let rows = c.rows;
     if rows >= 264 {
@@ -169,10 +177,16 @@ pub fn drop_values(heads: &mut [u64], values: &mut [u64], c: Counts, s: Stop, d:
 }
 
 // Puts a value among a row's values, which have none of its id: its kind, and four words.
-pub fn add_value(heads: &mut [u64], values: &mut [u64], c: Counts, s: Stop, id: u64, kind: u64, words: [u64; 4]) -> Counts
-    ensures {
-        λ r. ⌜ Adds s id (kind ∷ words) c (now (heads .entry)) (now (values .entry)) r (now (heads .exit)) (now (values .exit)) ⌝
-    }
+pub fn add_value(
+    heads: &mut [u64],
+    values: &mut [u64],
+    c: Counts,
+    s: Stop,
+    id: u64,
+    kind: u64,
+    words: [u64; 4],
+) -> Counts
+    ensures { λ r. ⌜ Adds s id (kind ∷ words) c (now (heads .entry)) (now (values .entry)) r (now (heads .exit)) (now (values .exit)) ⌝ }
 {
     let row = s.row;
     let first = s.value;
@@ -201,7 +215,11 @@ pub fn add_value(heads: &mut [u64], values: &mut [u64], c: Counts, s: Stop, id: 
     let k = rank_values(values, from, n, id);
     let at = from + k * 6;
     open(values, 6 * live, at, 6);
-    write_words(values, at, [id, kind, words[0], words[1], words[2], words[3]]);
+    write_words(
+        values,
+        at,
+        [id, kind, words[0], words[1], words[2], words[3]],
+    );
     heads[row] = h + 262144;
     Counts {
         rows: c.rows,

@@ -1,45 +1,33 @@
 -- `steps::flag_row` meets its contract: the row's head is written anew. Assumes nothing.
 use native.Mathlib.Omega.{arith}
 use borrow.Author.Needs.{needs}
-use mathlib.Core.Path.{_≡_, sym, _∙_}
-use Rattle.steps.specs.Steps.{FlagsHead, Flags}
+use Rattle.steps.specs.Steps.{Flags}
 use Rattle.steps.proofs.Changed.{row-in, flags}
 use Rattle.steps.proofs.flag_row.Statement.{statement}
 use Rattle.steps.proofs.flag_row.Tie as tie
-use Rattle.steps.proofs.flag_row.Reads as reads
-use Rattle.steps.proofs.flag_row.Lts as lts
-use Rattle.steps.proofs.flagged.Reads as flagged-reads
 
--- src/lib.rt:39:9
 returns : tie.Need-returns
 unfolding Flags
 returns c k m v n A R r H e = absurd (omega (arith, row-in A r R _ n H, c .if1 .taken, e))
 
--- src/lib.rt:41:13
 mul-h : tie.Need-mul-h
 mul-h c = search needs
 
--- src/lib.rt:41:13
 slice-read-h : tie.Need-slice-read-h
 slice-read-h c = search needs
 
--- src/lib.rt:42:18
 flagged-requires : tie.Need-flagged-requires
 flagged-requires c κs = search needs
 
--- src/lib.rt:42:5
 mul-heads : tie.Need-mul-heads
 mul-heads c = search needs
 
--- src/lib.rt:42:5
 slice-write-heads : tie.Need-slice-write-heads
 slice-write-heads c = search needs
 
--- src/lib.rt:35:1
 same-length : tie.Need-same-length
 same-length c = search needs
 
--- src/lib.rt:35:1
 returns-2 : tie.Need-returns-2
 returns-2 c = flags _ _ _ _ (c .flagged .ensures)
 

@@ -6,106 +6,85 @@ use Rattle.steps.proofs.Placed.{placed}
 use Rattle.steps.proofs.Marked.{marks}
 use Rattle.steps.proofs.mark_row.Statement.{statement}
 use Rattle.steps.proofs.mark_row.Tie as tie
-use Rattle.steps.proofs.mark_row.Reads as reads
-use Rattle.steps.proofs.mark_row.Lts as lts
-use Rattle.steps.proofs.marks_of.Reads as marks-of-reads
-use Rattle.words.proofs.open.Reads as open-reads
-use Rattle.words.proofs.rank.Reads as rank-reads
 
--- src/lib.rt:105:9
 returns : tie.Need-returns
 unfolding Marks
 returns c k v A R r H t u l = absurd (omega (arith, placed _ _ _ A R r H t .row, c .if1 .taken))
 
--- src/lib.rt:108:9
 returns-2 : tie.Need-returns-2
 unfolding Marks
 returns-2 c k v A R r H t u l = absurd (omega (arith, l, c .if2 .taken))
 
--- src/lib.rt:111:9
 returns-3 : tie.Need-returns-3
 unfolding Marks
 returns-3 c k v A R r H t u l = absurd (omega (arith, placed _ _ _ A R r H t .marks-long, l, c .if3 .taken))
 
--- src/lib.rt:113:13
 mul-h : tie.Need-mul-h
 mul-h c = search needs
 
--- src/lib.rt:113:13
 slice-read-h : tie.Need-slice-read-h
 slice-read-h c = search needs
 
--- src/lib.rt:115:9
 returns-4 : tie.Need-returns-4
 unfolding Marks
 returns-4 c k v A R r H t u l = absurd (omega (arith, placed _ _ _ A R r H t .small, c .if4 .taken))
 
--- src/lib.rt:117:9
 marks-of-requires : tie.Need-marks-of-requires
 marks-of-requires c κs = search needs
 
--- src/lib.rt:119:9
 returns-5 : tie.Need-returns-5
 unfolding Marks
 returns-5 c k v A R r H t u l = absurd (omega (arith, placed _ _ _ A R r H t .marks-low, c .if5 .taken))
 
--- src/lib.rt:122:9
 returns-6 : tie.Need-returns-6
 unfolding Marks
-returns-6 c k v A R r H t u l = absurd (omega (arith, placed _ _ _ A R r H t .marks-low, placed _ _ _ A R r H t .marks, c .before .before .marks-of .ensures, c .if6 .taken))
+returns-6 c k v A R r H t u l =
+    let p = placed _ _ _ A R r H t in
+    absurd (omega (arith, p .marks-low, p .marks, c .before .before .marks-of .ensures, c .if6 .taken))
 
--- src/lib.rt:124:9
 rank-requires : tie.Need-rank-requires
 rank-requires c κs = search needs
 
--- src/lib.rt:125:23
 add-open : tie.Need-add-open
 add-open c = search needs
 
--- src/lib.rt:125:5
 open-requires : tie.Need-open-requires
 open-requires c κs = search needs
 
--- src/lib.rt:126:11
 add-marks : tie.Need-add-marks
 add-marks c = search needs
 
--- src/lib.rt:126:5
 mul-marks : tie.Need-mul-marks
 mul-marks c = search needs
 
--- src/lib.rt:126:5
 slice-write-marks : tie.Need-slice-write-marks
 slice-write-marks c = search needs
 
--- src/lib.rt:127:18
 add-heads : tie.Need-add-heads
 add-heads c = search needs
 
--- src/lib.rt:127:5
 mul-heads : tie.Need-mul-heads
 mul-heads c = search needs
 
--- src/lib.rt:127:5
 slice-write-heads : tie.Need-slice-write-heads
 slice-write-heads c = search needs
 
--- src/lib.rt:130:16
 add-t12 : tie.Need-add-t12
 add-t12 c = search needs
 
--- src/lib.rt:98:1
 same-length : tie.Need-same-length
 same-length c = search needs
 
--- src/lib.rt:98:1
 same-length-2 : tie.Need-same-length-2
 same-length-2 c = search needs
 
--- src/lib.rt:98:1
 returns-7 : tie.Need-returns-7
 returns-7 c =
-    marks _ _ _ _ _ _ _ _ (c .before .before .before .before .before .before .before .before .before .before .before .if3 .left) (c .before .before .before .before .before .before .before .if5 .left) (c .before .before .before .before .before .before .if6 .left) (c .before .before .before .before .before .before .before .before .marks-of .ensures) (c .before .before .before .before .rank .ensures) (c .before .before .«open» .ensures)
+    let o = c .before .before in
+    let k = o .before .before in
+    let g = k .before .before in
+    let n = g .before .before in
+    marks _ _ _ _ _ _ _ _ (n .before .before .before .if3 .left) (g .before .if5 .left) (g .if6 .left) (n .marks-of .ensures) (k .rank .ensures) (o .«open» .ensures)
 
 pub mark-row-spec : {M : Type 1} → statement M
 mark-row-spec =

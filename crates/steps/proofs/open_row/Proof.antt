@@ -6,105 +6,84 @@ use Rattle.steps.specs.Steps.{Opens}
 use Rattle.steps.proofs.Opened.{room, opens}
 use Rattle.steps.proofs.open_row.Statement.{statement}
 use Rattle.steps.proofs.open_row.Tie as tie
-use Rattle.steps.proofs.open_row.Reads as reads
-use Rattle.steps.proofs.open_row.Lts as lts
-use Rattle.words.proofs.open.Reads as open-reads
-use Rattle.words.proofs.write3.Reads as write3-reads
 
--- src/lib.rt:54:9
 returns : tie.Need-returns
 unfolding Opens
 returns c m v A R p H x l n g w t = absurd (omega (arith, l, c .if1 .taken))
 
--- src/lib.rt:57:9
 returns-2 : tie.Need-returns-2
 unfolding Opens
 returns-2 c m v A R p H x l n g w t = absurd (omega (arith, room _ _ m v _ A R _ H x l .among, c .if2 .taken))
 
--- src/lib.rt:60:9
 returns-3 : tie.Need-returns-3
 unfolding Opens
 returns-3 c m v A R p H x l n g w t = absurd (omega (arith, n, c .if3 .taken))
 
--- src/lib.rt:63:9
 returns-4 : tie.Need-returns-4
 unfolding Opens
 returns-4 c m v A R p H x l n g w t = absurd (omega (arith, t, side-small p, c .if4 .taken))
 
--- src/lib.rt:66:9
 returns-5 : tie.Need-returns-5
 unfolding Opens
 returns-5 c m v A R p H x l n g w t = absurd (omega (arith, room _ _ m v _ A R _ H x l .heads, c .if5 .taken))
 
--- src/lib.rt:68:21
 mul-if6 : tie.Need-mul-if6
 mul-if6 c = search needs
 
--- src/lib.rt:68:21
 add-if6 : tie.Need-add-if6
 add-if6 c = search needs
 
--- src/lib.rt:69:9
 returns-6 : tie.Need-returns-6
 unfolding Opens
 returns-6 c m v A R p H x l n g w t = absurd (omega (arith, room _ _ m v _ A R _ H x l .keys, c .if6 .taken))
 
--- src/lib.rt:71:5
 open-requires : tie.Need-open-requires
 open-requires c κs = search needs
 
--- src/lib.rt:72:25
 mul-heads : tie.Need-mul-heads
 mul-heads c = search needs
 
--- src/lib.rt:72:17
 add-heads : tie.Need-add-heads
 add-heads c = search needs
 
--- src/lib.rt:72:5
 mul-heads-2 : tie.Need-mul-heads-2
 mul-heads-2 c = search needs
 
--- src/lib.rt:72:5
 slice-write-heads : tie.Need-slice-write-heads
 slice-write-heads c = search needs
 
--- src/lib.rt:73:16
 mul-open : tie.Need-mul-open
 mul-open c = search needs
 
--- src/lib.rt:73:26
 mul-open-2 : tie.Need-mul-open-2
 mul-open-2 c = search needs
 
--- src/lib.rt:73:5
 open-requires-2 : tie.Need-open-requires-2
 open-requires-2 c κs = search needs
 
--- src/lib.rt:74:18
 mul-write3 : tie.Need-mul-write3
 mul-write3 c = search needs
 
--- src/lib.rt:74:5
 write3-requires : tie.Need-write3-requires
 write3-requires c κs = search needs
 
--- src/lib.rt:76:15
 add-t12 : tie.Need-add-t12
 add-t12 c = search needs
 
--- src/lib.rt:46:1
 same-length : tie.Need-same-length
 same-length c = search needs
 
--- src/lib.rt:46:1
 same-length-2 : tie.Need-same-length-2
 same-length-2 c = search needs
 
--- src/lib.rt:46:1
 returns-7 : tie.Need-returns-7
 returns-7 c =
-    opens _ _ _ _ _ _ _ _ _ _ _ _ (c .before .before .before .before .before .before .before .before .before .before .before .before .before .before .before .before .if2 .left) (c .before .before .before .before .before .before .before .before .before .before .before .before .before .if5 .left) (c .before .before .before .before .before .before .before .before .before .before .before .before .if6 .left) (c .before .before .before .before .before .before .before .before .before .before .«open» .ensures) (c .before .before .before .before .before .before .open2 .ensures) (c .before .before .write3 .ensures)
+    let k = c .before .before in
+    let o = k .before .before .before .before in
+    let h = o .before .before .before .before in
+    let g = h .before .before in
+    opens _ _ _ _ _ _ _ _ _ _ _ _ (g .before .before .before .before .if2 .left) (g .before .if5 .left) (g .if6 .left) (h .«open» .ensures) (o .open2 .ensures)
+    (k .write3 .ensures)
 
 pub open-row-spec : {M : Type 1} → statement M
 open-row-spec =
