@@ -36,11 +36,11 @@ AllNarrow (r ∷ rs) = Narrow r × AllNarrow rs
 
 -- What a row's head says.
 
-bit-small : (b : Bool) → bit b < 2
+pub bit-small : (b : Bool) → bit b < 2
 bit-small true = omega arith
 bit-small false = omega arith
 
-side-small : (p : Spot) → side p < 2
+pub side-small : (p : Spot) → side p < 2
 side-small (inMap k) = omega arith
 side-small (inList i) = omega arith
 
