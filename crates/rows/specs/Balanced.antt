@@ -99,7 +99,7 @@ balance-front xs rs us c p = record {
   values = omega (arith, values-append xs rs, values-append xs us, p .values);
 }
 
-passed-rest : (p : Row → Bool) (rs : List Row) → passed p rs ++ rest p rs ≡ rs
+pub passed-rest : (p : Row → Bool) (rs : List Row) → passed p rs ++ rest p rs ≡ rs
 unfolding passed rest
 passed-rest p [] = refl
 passed-rest p (r ∷ rs) = go (p r) (passed-rest p rs)
@@ -108,11 +108,11 @@ passed-rest p (r ∷ rs) = go (p r) (passed-rest p rs)
     go true h = ap (r ∷_) h
     go false h = refl
 
-fresh-append : (i : ℕ) (xs ys : List Row) → Fresh i (xs ++ ys) → Fresh i xs × Fresh i ys
+pub fresh-append : (i : ℕ) (xs ys : List Row) → Fresh i (xs ++ ys) → Fresh i xs × Fresh i ys
 fresh-append i [] ys h = (tt, h)
 fresh-append i (x ∷ xs) ys h = let t = fresh-append i xs ys (h .2) in ((h .0, h .1, t .0), t .1)
 
-fresh-parts : (i : ℕ) (p : Row → Bool) (rs : List Row) → Fresh i rs → Fresh i (passed p rs) × Fresh i (rest p rs)
+pub fresh-parts : (i : ℕ) (p : Row → Bool) (rs : List Row) → Fresh i rs → Fresh i (passed p rs) × Fresh i (rest p rs)
 fresh-parts i p rs h = fresh-append i (passed p rs) (rest p rs) (subst (Fresh i) (sym (passed-rest p rs)) h)
 
 -- At one place.

@@ -4,3 +4,4 @@ pub mod Finds
 pub mod Standing
 pub mod Holding
 pub mod Parts
+pub mod Stands
