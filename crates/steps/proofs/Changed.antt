@@ -6,7 +6,7 @@ use mathlib.Core.Path.{_≡_, refl, sym, ap, _∙_}
 use mathlib.Core.Bool.{Bool, true, false}
 use mathlib.Core.List.{List, _∷_, _++_}
 use lib.ListN.{length, set, getD, replicate, length-append}
-use lib.Seq.{set-at, getD-at}
+use lib.Seq.{set-at}
 use Rattle.meaning.specs.Load.{marksIn, valuesIn}
 use Rattle.meaning.specs.Sheet.{Row}
 use Rattle.theorems.specs.Accepting.{marks-append, values-append}
@@ -14,6 +14,7 @@ use Rattle.tables.specs.Words.{headWord, headsOf, keysOf, marksOf, valuesOf, ea
 use Rattle.tables.specs.Standing.{keys-append, heads-length}
 use Rattle.tables.specs.Holding.{headsRoom, keysRoom, marksRoom, valuesRoom, Good, Holds, four, flagRow}
 use Rattle.tables.specs.Parts.{marks-of-append, values-of-append, all-left, all-right, all-both, heads-long, heads-parts}
+use Rattle.tables.specs.Stands.{head-at}
 use Rattle.tables.specs.declared.Counts.{Counts}
 use Rattle.steps.specs.Steps.{FlagsHead, Flags}
 
@@ -28,12 +29,6 @@ module _ (A : List Row) (r : Row) (R : List Row) where
 
   pub rows-between : length (A ++ r ∷ R) ≡ length A + (1 + length R)
   rows-between = length-append A (r ∷ R) ∙ omega arith
-
-  -- the row's head
-  pub head-at : (h : List ℕ) → h ≡ pad headsRoom (headsOf (A ++ r ∷ R)) → getD h (length A) 0 ≡ headWord r
-  head-at h e =
-      let z : List ℕ = replicate (headsRoom - length (headsOf (A ++ r ∷ R))) 0 in
-      rw (e, heads-parts A r R z) (getD-at (headsOf A) (headWord r) (headsOf R ++ z) 0 (length A) (heads-length A))
 
   -- the row is in the table of heads
   pub row-in : (T : Tables) (c : Counts) → Holds T c (A ++ r ∷ R) → length A < length (T .heads)
@@ -109,5 +104,5 @@ unfolding FlagsHead Flags
 flags list row w h f k m v c A R r H e =
     let G = all-right Good A (r ∷ R) (H .good) in
     let d : r .depth < 16 = omega (arith, G .0 .depth) in
-    let q : getD h row 0 ≡ headWord r = rw e (head-at A r R h (H .heads)) in
+    let q : getD h row 0 ≡ headWord r = rw e (head-at h k m v c A R r H) in
     rw (f r d q, e) (flagged-row h k m v c A R r list H)

@@ -8,13 +8,14 @@ use mathlib.Core.List.{List, [], _∷_, _++_}
 use lib.ListN.{length, getD}
 use Rattle.meaning.specs.Sheet.{Row}
 use Rattle.tables.specs.Words.{headWord, marksAt, valuesAt, Tables}
-use Rattle.tables.specs.Finds.{Narrow, AllNarrow, bit-small, side-small, marks-in, values-in}
+use Rattle.tables.specs.Finds.{AllNarrow, bit-small, side-small, marks-in, values-in}
 use Rattle.tables.specs.Standing.{behind}
 use Rattle.tables.specs.Holding.{Good, Holds}
-use Rattle.tables.specs.Parts.{at-behind, holds-narrow, all-right, marks-long, values-long}
+use Rattle.tables.specs.Parts.{at-behind, holds-narrow, all-narrow-right, all-right, marks-long, values-long}
+use Rattle.tables.specs.Stands.{head-at}
 use Rattle.tables.specs.declared.Counts.{Counts}
 use Rattle.tables.specs.declared.Stop.{Stop}
-use Rattle.steps.proofs.Changed.{marks-between, values-between, head-at, row-in}
+use Rattle.steps.proofs.Changed.{marks-between, values-between, row-in}
 
 pub record Placed (T : Tables) (c : Counts) (s : Stop) (r : Row) : Type 0 where
   pub row : s .row < length (T .heads)
@@ -28,16 +29,12 @@ pub record Placed (T : Tables) (c : Counts) (s : Stop) (r : Row) : Type 0 where
   pub values-long : length (T .values) ≡ 1542
   pub good : Good r
 
-narrow-at : (A : List Row) (r : Row) (R : List Row) → AllNarrow (A ++ r ∷ R) → Narrow r
-unfolding AllNarrow
-narrow-at [] r R h = h .0
-narrow-at (x ∷ A) r R h = narrow-at A r R (h .1)
-
 pub placed : (T : Tables) (c : Counts) (s : Stop) (A R : List Row) (r : Row) → Holds T c (A ++ r ∷ R) → s ≡ behind A → Placed T c s r
+unfolding AllNarrow
 placed T c s A R r H e =
     let p = at-behind s A e in
-    let n = narrow-at A r R (holds-narrow T c (A ++ r ∷ R) H) in
-    let d : getD (T .heads) (s .row) 0 ≡ headWord r = rw (p .row) (head-at A r R (T .heads) (H .heads)) in
+    let n = all-narrow-right A (r ∷ R) (holds-narrow T c (A ++ r ∷ R) H) .0 in
+    let d : getD (T .heads) (s .row) 0 ≡ headWord r = rw (p .row) (head-at (T .heads) (T .keys) (T .marks) (T .values) c A R r H) in
     record {
       row = omega (arith, p .row, row-in A r R T c H);
       head = d;
