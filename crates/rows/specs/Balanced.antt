@@ -56,19 +56,19 @@ put-length {A} number a xs n = length-append (keep (smaller number a) xs) _ ∙ 
             )
             (omega arith)
 
-clear-marks-length : (d ms : List ℕ) → length (clearMarks d ms) ≤ length ms
+pub clear-marks-length : (d ms : List ℕ) → length (clearMarks d ms) ≤ length ms
 unfolding clearMarks
 clear-marks-length d ms = keep-length (λ i. uncovered d i) ms
 
-fresh-clear : (d ms : List ℕ) (i : ℕ) → (Has own i ms → ⊥) → Has own i (clearMarks d ms) → ⊥
+pub fresh-clear : (d ms : List ℕ) (i : ℕ) → (Has own i ms → ⊥) → Has own i (clearMarks d ms) → ⊥
 unfolding clearMarks
 fresh-clear d ms i n h = n (has-keep own (λ i. uncovered d i) i ms h)
 
-clear-values-length : (d : List ℕ) (r : Row) → length (clearValues d (r .values)) ≤ length (r .values)
+pub clear-values-length : (d : List ℕ) (r : Row) → length (clearValues d (r .values)) ≤ length (r .values)
 unfolding clearValues
 clear-values-length d r = keep-length (λ v. uncovered d (v .id)) (r .values)
 
-fresh-clear-values : (d : List ℕ) (r : Row) (i : ℕ) → (Has idOfValue i (r .values) → ⊥) → Has idOfValue i (clearValues d (r .values)) → ⊥
+pub fresh-clear-values : (d : List ℕ) (r : Row) (i : ℕ) → (Has idOfValue i (r .values) → ⊥) → Has idOfValue i (clearValues d (r .values)) → ⊥
 unfolding clearValues
 fresh-clear-values d r i n h = n (has-keep idOfValue (λ v. uncovered d (v .id)) i (r .values) h)
 
@@ -108,16 +108,16 @@ passed-rest p (r ∷ rs) = go (p r) (passed-rest p rs)
     go true h = ap (r ∷_) h
     go false h = refl
 
-fresh-append : (i : ℕ) (xs ys : List Row) → Fresh i (xs ++ ys) → Fresh i xs × Fresh i ys
+pub fresh-append : (i : ℕ) (xs ys : List Row) → Fresh i (xs ++ ys) → Fresh i xs × Fresh i ys
 fresh-append i [] ys h = (tt, h)
 fresh-append i (x ∷ xs) ys h = let t = fresh-append i xs ys (h .2) in ((h .0, h .1, t .0), t .1)
 
-fresh-parts : (i : ℕ) (p : Row → Bool) (rs : List Row) → Fresh i rs → Fresh i (passed p rs) × Fresh i (rest p rs)
+pub fresh-parts : (i : ℕ) (p : Row → Bool) (rs : List Row) → Fresh i rs → Fresh i (passed p rs) × Fresh i (rest p rs)
 fresh-parts i p rs h = fresh-append i (passed p rs) (rest p rs) (subst (Fresh i) (sym (passed-rest p rs)) h)
 
 -- At one place.
 
-clears-rows : (d : List ℕ) (rs : List Row) → Balance rs (map (clearRow d) rs) (clears d rs)
+pub clears-rows : (d : List ℕ) (rs : List Row) → Balance rs (map (clearRow d) rs) (clears d rs)
 unfolding marksIn valuesIn goneMarks goneValues
 clears-rows d [] = record { places = refl; marks = refl; values = refl }
 clears-rows d (r ∷ rs) =

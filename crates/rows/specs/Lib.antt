@@ -8,3 +8,4 @@ pub mod Locate
 pub mod Counting
 pub mod Balanced
 pub mod Room
+pub mod Within

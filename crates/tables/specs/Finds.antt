@@ -66,7 +66,7 @@ after s [] = s
 after s (r ∷ rs) = after (past s r) rs
 
 -- the words of the row at the start
-three-here : (p : Spot) (ks qs : List ℕ) → three ((spotWords p ++ ks) ++ qs) ≡ three (spotWords p)
+pub three-here : (p : Spot) (ks qs : List ℕ) → three ((spotWords p ++ ks) ++ qs) ≡ three (spotWords p)
 three-here (inMap k) ks qs = refl
 three-here (inList i) ks qs = refl
 
@@ -165,7 +165,7 @@ module _ (n : ℕ) where
   end-agrees p h = refl
 
 -- Whether the row where the search stopped is the one that was looked for.
-abbrev Tells : Want → (Spot → Bool) → Type 0
+abbrev pub Tells : Want → (Spot → Bool) → Type 0
 Tells w meant = (r : Row) → Narrow r → isWanted w (headWord r) (three (spotWords (r .spot))) ≡ at (w .depth) meant r
 
 narrowed : (c b : Bool) → cond c b false ≡ c && b

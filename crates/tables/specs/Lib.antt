@@ -4,4 +4,5 @@ pub mod Finds
 pub mod Standing
 pub mod Holding
 pub mod Parts
+pub mod Stands
 pub mod Values

@@ -126,6 +126,16 @@ holds-narrow T c rs h =
 pad-length : (n : ℕ) (w : List ℕ) → length w ≤ n → length (pad n w) ≡ n
 pad-length n w h = simp (length-append, length-replicate) (omega arith)
 
+pub all-narrow-left : (a b : List Row) → AllNarrow (a ++ b) → AllNarrow a
+unfolding AllNarrow
+all-narrow-left [] b h = tt
+all-narrow-left (r ∷ a) b h = (h .0, all-narrow-left a b (h .1))
+
+pub all-narrow-right : (a b : List Row) → AllNarrow (a ++ b) → AllNarrow b
+unfolding AllNarrow
+all-narrow-right [] b h = h
+all-narrow-right (r ∷ a) b h = all-narrow-right a b (h .1)
+
 -- the lengths of the tables
 module _ (T : Tables) (c : Counts) (rs : List Row) (h : Holds T c rs) where
   pub heads-long : length (T .heads) ≡ headsRoom

@@ -70,6 +70,11 @@ pub record Searches (heads keys : List ℕ) (rows : ℕ) (s : Stop) : Type 0 whe
   pub marks : s .mark ≤ 2048 * s .row
   pub values : s .value ≤ 512 * s .row
 
+-- a test says whether something holds
+abbrev pub holdsIf : Bool → Type 0 → Type 0
+holdsIf true P = P
+holdsIf false P = P → ⊥
+
 -- in tables with this many rows
 abbrev pub sought : Want → List ℕ → List ℕ → ℕ → Stop → Stop
 sought w heads keys rows s = seekWords w (drop (s .row) (take rows heads)) (drop (3 * s .row) keys) s

@@ -67,7 +67,7 @@ module _ (a b : List Row) (hs ks : List ℕ) where
       ∙ (ap (drop (length a)) (take-append-seam (headsOf (a ++ b)) hs ∙ heads-append a b)
       ∙ (ap (λ n. drop n (headsOf a ++ headsOf b)) (sym (heads-length a)) ∙ drop-append-seam (headsOf a) (headsOf b)))
 
-  keys-from : drop (3 * length a) (keysOf (a ++ b) ++ ks) ≡ keysOf b ++ ks
+  pub keys-from : drop (3 * length a) (keysOf (a ++ b) ++ ks) ≡ keysOf b ++ ks
   keys-from =
       ap (λ n. drop n (keysOf (a ++ b) ++ ks)) (sym (keys-length a))
       ∙ (ap (λ l. drop (length (keysOf a)) (l ++ ks)) (keys-append a b)

@@ -4,7 +4,8 @@
 ghost use mathlib.Core.Path.{_≡_};
 ghost use Prim.Native.Nat.{_+_, _*_, _-_, _≤_, _<_};
 ghost use lib.ListN.{length};
-ghost use Rattle.tables.specs.Seek.{turn, turnNumber, passesOne, goesOver, isWanted, Searches, sought};
+ghost use Rattle.tables.specs.Seek.{turn, turnNumber, passesOne, goesOver, isWanted, Searches, holdsIf, sought};
+ghost use Rattle.tables.specs.Stands.{FindsIn, Knows};
 
 // A place in the tables: a row, and how many marks and values the rows before it have.
 pub struct Stop {
@@ -143,4 +144,64 @@ pub fn seek(heads: &[u64], keys: &[u64], rows: usize, from: Stop, w: Want) -> St
         };
     }
     at
+}
+
+// Whether a search may begin there: the rows are in the tables, and the place is one of them or behind the last.
+fn may_begin(heads: &[u64], keys: &[u64], rows: usize, from: Stop) -> bool
+    ensures { λ r. ⌜ holdsIf r (Searches (now (heads .entry)) (now (keys .entry)) rows from) ⌝ }
+{
+    if rows > 1024 {
+        return false;
+    }
+    if from.row > rows {
+        return false;
+    }
+    if rows > heads.len() {
+        return false;
+    }
+    if 3 * rows > keys.len() {
+        return false;
+    }
+    if from.mark > 2048 * from.row {
+        return false;
+    }
+    if from.value > 512 * from.row {
+        return false;
+    }
+    true
+}
+
+// Where the search from a place on stops, in tables that hold rows; in others anywhere.
+pub fn find(heads: &[u64], keys: &[u64], rows: usize, from: Stop, w: Want) -> Stop
+    ensures { λ r. ⌜ FindsIn (now (heads .entry)) (now (keys .entry)) rows from w r ⌝ }
+{
+    if may_begin(heads, keys, rows, from) {
+        return seek(heads, keys, rows, from, w);
+    }
+    from
+}
+
+// Whether the row at a place is the one that is looked for.
+pub fn known(heads: &[u64], keys: &[u64], rows: usize, at: usize, w: Want) -> bool
+    ensures { λ r. ⌜ Knows (now (heads .entry)) (now (keys .entry)) rows at w r ⌝ }
+{
+    if at >= rows {
+        return false;
+    }
+    if at >= 1024 {
+        return false;
+    }
+    if at >= heads.len() {
+        return false;
+    }
+    if 3 * at + 2 >= keys.len() {
+        return false;
+    }
+    is_wanted(
+        w,
+        heads[at],
+        keys[3 * at],
+        keys[3 * at + 1],
+        keys[3 * at + 2],
+    )
 }

@@ -1,0 +1,70 @@
+-- Tables that hold rows, of which one has a mark more.
+-- Assumes nothing.
+use Prim.Native.Nat.{ℕ, _+_, _-_, _≤_, _<_}
+use native.Mathlib.Omega.{arith}
+use mathlib.Core.Path.{_≡_, refl, sym, ap, _∙_}
+use mathlib.Core.List.{List, [], _∷_, _++_}
+use lib.ListN.{length, set, getD, replicate}
+use Rattle.meaning.specs.Members.{Has, Ascending, own}
+use Rattle.meaning.specs.Sets.{put}
+use Rattle.meaning.specs.Load.{marksIn}
+use Rattle.meaning.specs.Sheet.{Row}
+use Rattle.theorems.specs.Members.{asc-put}
+use Rattle.rows.specs.Blocks.{markRow}
+use Rattle.words.specs.Words.{run, opened, inserted}
+use Rattle.words.specs.Rows.{rankOf, Ranked}
+use Rattle.words.proofs.Over.{run-parts}
+use Rattle.words.proofs.Flat.{alone, flat-own, strides-own}
+use Rattle.words.proofs.Tables.{open-one}
+use Rattle.tables.specs.Words.{headWord, marksAt, marksOf, pad}
+use Rattle.tables.specs.Holding.{marksRoom, valuesRoom}
+use Rattle.tables.specs.Parts.{at-behind, marks-length, marks-of-append, marks-parts}
+use Rattle.tables.specs.declared.Counts.{Counts}
+use Rattle.tables.specs.declared.Stop.{Stop}
+use Rattle.steps.specs.Steps.{Marks}
+use Rattle.steps.proofs.Padded.{put-more, put-pad}
+use Rattle.steps.proofs.Changed.{marks-between, values-same, changed}
+use Rattle.steps.proofs.Placed.{placed}
+
+module _ (A R : List Row) (r : Row) (m : List ℕ) (e : m ≡ pad marksRoom (marksOf (A ++ r ∷ R))) (from : ℕ) (f : from ≡ marksIn A) where
+  -- the row's marks
+  marks-here : run from (length (r .marks)) m ≡ r .marks
+  marks-here =
+      let z : List ℕ = replicate (marksRoom - length (marksOf (A ++ r ∷ R))) 0 in
+      rw (e, marks-parts A r R z) (run-parts (marksOf A) (r .marks) (marksOf R ++ z) from (length (r .marks)) (marks-length A ∙ sym f) refl)
+
+  -- one more among them
+  mark-put : (id k live : ℕ) → Ascending own (r .marks) → (Has own id (r .marks) → ⊥) → k ≡ rankOf own id (r .marks)
+      → live ≡ marksIn (A ++ r ∷ R) → live < 1032 → inserted live (from + k) (id ∷ []) m ≡ pad marksRoom (marksOf (A ++ markRow id r ∷ R))
+  unfolding marksOf
+  mark-put id k live s o q l h =
+      let d = marks-between A r R in
+      let P =
+      put-pad 1 alone own strides-own marksRoom from k (from + k) live (marksOf A) (marksOf R) id (r .marks) s o
+      (marks-length A ∙ sym f) q (omega arith) (omega (arith, marks-length R)) (omega arith) in
+      let Q : inserted live (from + k) (id ∷ []) (pad marksRoom (marksOf A ++ (r .marks ++ marksOf R)))
+      ≡ pad marksRoom (marksOf A ++ (put own id (r .marks) ++ marksOf R)) = rw (flat-own (r .marks), flat-own (put own id (r .marks))) at P in
+      ap (inserted live (from + k) (id ∷ [])) (e ∙ ap (pad marksRoom) (marks-of-append A (r ∷ R)))
+      ∙ (Q ∙ ap (pad marksRoom) (sym (marks-of-append A (markRow id r ∷ R))))
+
+pub marks : (s : Stop) (id n k : ℕ) (c : Counts) (h m m₁ : List ℕ) → c .marks < length m → s .mark ≤ c .marks → n ≤ c .marks - s .mark
+    → n ≡ marksAt (getD h (s .row) 0) → Ranked n (rankOf own id (run (s .mark) n m)) k → m₁ ≡ opened (c .marks) (s .mark + k) 1 m
+    → Marks s id c h m (record { rows = c .rows; marks = c .marks + 1; values = c .values })
+    (set h (s .row) (getD h (s .row) 0 + 128)) (set m₁ (s .mark + k) id)
+unfolding Marks
+marks s id n k c h m m₁ a b d x K o keys v A R r H t u l =
+    let p = at-behind s A t in
+    let P = placed _ c s A R r H t in
+    let g = P .good .marks in
+    let y : n ≡ length (r .marks) = x ∙ P .marks in
+    let w : run (s .mark) n m ≡ r .marks = rw y (marks-here A R r m (H .marks) (s .mark) (p .mark)) in
+    let q : k ≡ rankOf own id (r .marks) = K .is ∙ ap (rankOf own id) w in
+    let i : length (put own id (r .marks)) ≡ length (r .marks) + 1 = put-more own id (r .marks) g u in
+    let z : getD h (s .row) 0 + 128 ≡ headWord (markRow id r) = omega (arith, P .head) in
+    let M : set m₁ (s .mark + k) id ≡ pad marksRoom (marksOf (A ++ markRow id r ∷ R)) =
+    ap (λ (j : List ℕ). set j (s .mark + k) id) o ∙ (open-one (c .marks) (s .mark + k) id m (omega (arith, K .high)) (omega arith)
+    ∙ mark-put A R r m (H .marks) (s .mark) (p .mark) id k (c .marks) g u q (H .marks-are) l) in
+    rw (z, p .row)
+    (changed A r (markRow id r) R h keys m v _ v c _ H refl
+    (λ G. record { spot = G .spot; depth = G .depth; marks = asc-put own id (r .marks) (G .marks); values = G .values }) M
+    (H .values ∙ ap (pad valuesRoom) (values-same A r (markRow id r) R refl)) refl (omega arith) refl (omega arith) (H .values-fit))

@@ -1,0 +1,113 @@
+-- `steps::open_row` meets its contract: the row's words are put in. Assumes nothing.
+use native.Mathlib.Omega.{arith}
+use borrow.Author.Needs.{needs}
+use Rattle.tables.specs.Finds.{side-small}
+use Rattle.steps.specs.Steps.{Opens}
+use Rattle.steps.proofs.Opened.{room, opens}
+use Rattle.steps.proofs.open_row.Statement.{statement}
+use Rattle.steps.proofs.open_row.Tie as tie
+
+returns : tie.Need-returns
+unfolding Opens
+returns c m v A R p H x l n g w t = absurd (omega (arith, l, c .if1 .taken))
+
+returns-2 : tie.Need-returns-2
+unfolding Opens
+returns-2 c m v A R p H x l n g w t = absurd (omega (arith, room _ _ m v _ A R _ H x l .among, c .if2 .taken))
+
+returns-3 : tie.Need-returns-3
+unfolding Opens
+returns-3 c m v A R p H x l n g w t = absurd (omega (arith, n, c .if3 .taken))
+
+returns-4 : tie.Need-returns-4
+unfolding Opens
+returns-4 c m v A R p H x l n g w t = absurd (omega (arith, t, side-small p, c .if4 .taken))
+
+returns-5 : tie.Need-returns-5
+unfolding Opens
+returns-5 c m v A R p H x l n g w t = absurd (omega (arith, room _ _ m v _ A R _ H x l .heads, c .if5 .taken))
+
+mul-if6 : tie.Need-mul-if6
+mul-if6 c = search needs
+
+add-if6 : tie.Need-add-if6
+add-if6 c = search needs
+
+returns-6 : tie.Need-returns-6
+unfolding Opens
+returns-6 c m v A R p H x l n g w t = absurd (omega (arith, room _ _ m v _ A R _ H x l .keys, c .if6 .taken))
+
+open-requires : tie.Need-open-requires
+open-requires c κs = search needs
+
+mul-heads : tie.Need-mul-heads
+mul-heads c = search needs
+
+add-heads : tie.Need-add-heads
+add-heads c = search needs
+
+mul-heads-2 : tie.Need-mul-heads-2
+mul-heads-2 c = search needs
+
+slice-write-heads : tie.Need-slice-write-heads
+slice-write-heads c = search needs
+
+mul-open : tie.Need-mul-open
+mul-open c = search needs
+
+mul-open-2 : tie.Need-mul-open-2
+mul-open-2 c = search needs
+
+open-requires-2 : tie.Need-open-requires-2
+open-requires-2 c κs = search needs
+
+mul-write3 : tie.Need-mul-write3
+mul-write3 c = search needs
+
+write3-requires : tie.Need-write3-requires
+write3-requires c κs = search needs
+
+add-t12 : tie.Need-add-t12
+add-t12 c = search needs
+
+same-length : tie.Need-same-length
+same-length c = search needs
+
+same-length-2 : tie.Need-same-length-2
+same-length-2 c = search needs
+
+returns-7 : tie.Need-returns-7
+returns-7 c =
+    let k = c .before .before in
+    let o = k .before .before .before .before in
+    let h = o .before .before .before .before in
+    let g = h .before .before in
+    opens _ _ _ _ _ _ _ _ _ _ _ _ (g .before .before .before .before .if2 .left) (g .before .if5 .left) (g .if6 .left) (h .«open» .ensures) (o .open2 .ensures)
+    (k .write3 .ensures)
+
+pub open-row-spec : {M : Type 1} → statement M
+open-row-spec =
+    tie.close
+    (tie.spec
+    returns
+    returns-2
+    returns-3
+    returns-4
+    returns-5
+    mul-if6
+    add-if6
+    returns-6
+    open-requires
+    mul-heads
+    add-heads
+    mul-heads-2
+    slice-write-heads
+    mul-open
+    mul-open-2
+    open-requires-2
+    mul-write3
+    write3-requires
+    add-t12
+    same-length
+    same-length-2
+    returns-7)

@@ -1,0 +1,50 @@
+-- What the single steps over the tables promise: if the tables held these rows, they hold those afterwards. A step changes one row, or opens one.
+-- h, k, m, v are the words of the tables heads, keys, marks, values; primed ones are those afterwards; c and e the counts before and after.
+-- A table that a step isn't lent is any, and the same afterwards. Memory that holds no rows is promised nothing.
+-- Assumes nothing: these are definitions.
+use Prim.Native.Nat.{ℕ, _≤_, _<_}
+use mathlib.Core.Path.{_≡_}
+use mathlib.Core.Bool.{Bool}
+use mathlib.Core.List.{List, _∷_, _++_}
+use lib.ListN.{length}
+use Rattle.meaning.specs.Members.{Has, own, idOfValue}
+use Rattle.meaning.specs.Places.{Plain}
+use Rattle.meaning.specs.Sheet.{Spot, Row}
+use Rattle.rows.specs.Blocks.{newRow, markRow, dropRow, addRow}
+use Rattle.tables.specs.Words.{side, headWord, spotWords, plainWords}
+use Rattle.tables.specs.Finds.{GoodSpot}
+use Rattle.tables.specs.Standing.{behind}
+use Rattle.tables.specs.Holding.{Holds, four, flagRow}
+use Rattle.tables.specs.declared.Counts.{Counts}
+use Rattle.tables.specs.declared.Stop.{Stop}
+
+-- the head's word w of a row becomes w′: the flag of the list, or of the map, is set
+unfoldable pub FlagsHead : Bool → ℕ → ℕ → Type 0
+FlagsHead list w w′ = (r : Row) → r .depth < 16 → w ≡ headWord r → w′ ≡ headWord (flagRow list r)
+
+unfoldable pub Flags : Bool → ℕ → List ℕ → List ℕ → Type 0
+Flags list row h h′ =
+    (k m v : List ℕ) (c : Counts) (A R : List Row) (r : Row) → Holds (four h k m v) c (A ++ r ∷ R) → row ≡ length A
+    → Holds (four h′ k m v) c (A ++ flagRow list r ∷ R)
+
+-- a new row stands before row `at`; p's three words are w
+unfoldable pub Opens : ℕ → ℕ → ℕ → List ℕ → Counts → List ℕ → List ℕ → Counts → List ℕ → List ℕ → Type 0
+Opens at depth s w c h k e h′ k′ =
+    (m v : List ℕ) (A R : List Row) (p : Spot) → Holds (four h k m v) c (A ++ R) → at ≡ length A → c .rows < 264 → depth ≤ 8 → GoodSpot p
+    → spotWords p ≡ w → s ≡ side p → Holds (four h′ k′ m v) e (A ++ newRow depth p ∷ R)
+
+unfoldable pub Marks : Stop → ℕ → Counts → List ℕ → List ℕ → Counts → List ℕ → List ℕ → Type 0
+Marks s id c h m e h′ m′ =
+    (k v : List ℕ) (A R : List Row) (r : Row) → Holds (four h k m v) c (A ++ r ∷ R) → s ≡ behind A → (Has own id (r .marks) → ⊥)
+    → c .marks < 1032 → Holds (four h′ k m′ v) e (A ++ markRow id r ∷ R)
+
+unfoldable pub Drops : Stop → List ℕ → Counts → List ℕ → List ℕ → Counts → List ℕ → List ℕ → Type 0
+Drops s d c h v e h′ v′ =
+    (k m : List ℕ) (A R : List Row) (r : Row) → Holds (four h k m v) c (A ++ r ∷ R) → s ≡ behind A
+    → Holds (four h′ k m v′) e (A ++ dropRow d r ∷ R)
+
+-- w are the value's kind and its four words
+unfoldable pub Adds : Stop → ℕ → List ℕ → Counts → List ℕ → List ℕ → Counts → List ℕ → List ℕ → Type 0
+Adds s id w c h v e h′ v′ =
+    (k m : List ℕ) (A R : List Row) (r : Row) (x : Plain) → Holds (four h k m v) c (A ++ r ∷ R) → s ≡ behind A
+    → (Has idOfValue id (r .values) → ⊥) → c .values < 257 → plainWords x ≡ w → Holds (four h′ k m v′) e (A ++ addRow id x r ∷ R)

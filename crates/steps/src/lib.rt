@@ -1,0 +1,229 @@
+// The single steps over the document's tables that change one row, or open one. Each is safe on any memory: a place, a
+// count or a table that doesn't fit is found before the first word is written. What they promise of tables that hold rows says specs/Steps.
+use meaning::Counters;
+use tables::Counts;
+use tables::Stop;
+use words::close;
+use words::keep_values;
+use words::open;
+use words::rank;
+use words::rank_values;
+use words::write_words;
+use words::write3;
+ghost use Prim.Native.Nat.{_/_, _%_, _≤_, _<_};
+ghost use mathlib.Core.Path.{_≡_};
+ghost use mathlib.Core.List.{[], _∷_};
+ghost use Rattle.tables.specs.Words.{marksAt, valuesAt};
+ghost use Rattle.steps.specs.Steps.{FlagsHead, Flags, Opens, Marks, Drops, Adds};
+
+// A head's word with the flag of the list, or of the map.
+fn flagged(h: u64, list: bool) -> u64
+    ensures { λ r. ⌜ FlagsHead list h r ⌝ }
+{
+    if list {
+        if h / 64 % 2 == 1 {
+            return h;
+        }
+        return h + 64;
+    }
+    if h / 32 % 2 == 1 {
+        return h;
+    }
+    h + 32
+}
+
+// Sets the flag of a row's list, or of its map.
+pub fn flag_row(heads: &mut [u64], row: usize, list: bool)
+    ensures { λ _. ⌜ Flags list row (now (heads .entry)) (now (heads .exit)) ⌝ }
+{
+    if row >= heads.len() {
+        return;
+    }
+    let h = heads[row];
+    heads[row] = flagged(h, list);
+}
+
+// Opens a row without flags, marks and values before row `at`.
+pub fn open_row(
+    heads: &mut [u64],
+    keys: &mut [u64],
+    c: Counts,
+    at: usize,
+    depth: u64,
+    side: u64,
+    hi: u64,
+    lo: u64,
+    len: u64,
+) -> Counts
+    ensures { λ r.
+        ⌜ Opens at depth side (hi ∷ lo ∷ len ∷ []) c (now (heads .entry)) (now (keys .entry)) r (now (heads .exit)) (now (keys .exit)) ⌝ }
+{
+    let rows = c.rows;
+    if rows >= 264 {
+        return c;
+    }
+    if at > rows {
+        return c;
+    }
+    if depth > 8 {
+        return c;
+    }
+    if side > 1 {
+        return c;
+    }
+    if heads.len() <= rows {
+        return c;
+    }
+    if keys.len() < 3 * rows + 3 {
+        return c;
+    }
+    open(heads, rows, at, 1);
+    heads[at] = depth + 16 * side;
+    open(keys, 3 * rows, 3 * at, 3);
+    write3(keys, 3 * at, hi, lo, len);
+    Counts {
+        rows: rows + 1,
+        marks: c.marks,
+        values: c.values,
+    }
+}
+
+// How many marks a row has, by its head's word.
+fn marks_of(h: u64) -> usize
+    ensures { λ r. ⌜ r ≡ marksAt h ⌝ }
+{
+    (h / 128 % 2048) as usize
+}
+
+// How many values.
+fn values_of(h: u64) -> usize
+    ensures { λ r. ⌜ r ≡ valuesAt h ⌝ }
+{
+    (h / 262144 % 512) as usize
+}
+
+// Puts an id among a row's marks, which don't have it.
+pub fn mark_row(heads: &mut [u64], marks: &mut [u64], c: Counts, s: Stop, id: u64) -> Counts
+    ensures { λ r. ⌜ Marks s id c (now (heads .entry)) (now (marks .entry)) r (now (heads .exit)) (now (marks .exit)) ⌝ }
+{
+    let row = s.row;
+    let from = s.mark;
+    let live = c.marks;
+    if row >= heads.len() {
+        return c;
+    }
+    if live >= 1032 {
+        return c;
+    }
+    if live >= marks.len() {
+        return c;
+    }
+    let h = heads[row];
+    if h >= 134217728 {
+        return c;
+    }
+    let n = marks_of(h);
+    if from > live {
+        return c;
+    }
+    if n > live - from {
+        return c;
+    }
+    let k = rank(marks, from, n, id);
+    open(marks, live, from + k, 1);
+    marks[from + k] = id;
+    heads[row] = h + 128;
+    Counts {
+        rows: c.rows,
+        marks: live + 1,
+        values: c.values,
+    }
+}
+
+// Drops a row's values that d covers.
+pub fn drop_values(heads: &mut [u64], values: &mut [u64], c: Counts, s: Stop, d: Counters) -> Counts
+    ensures { λ r. ⌜ Drops s (d .at) c (now (heads .entry)) (now (values .entry)) r (now (heads .exit)) (now (values .exit)) ⌝ }
+{
+    let row = s.row;
+    let first = s.value;
+    let live = c.values;
+    if row >= heads.len() {
+        return c;
+    }
+    if live > 257 {
+        return c;
+    }
+    if values.len() < 6 * live {
+        return c;
+    }
+    let h = heads[row];
+    let n = values_of(h);
+    if first > live {
+        return c;
+    }
+    if n > live - first {
+        return c;
+    }
+    let from = 6 * first;
+    let end = keep_values(values, from, n, from, d);
+    close(values, 6 * live, from + n * 6, end);
+    let gone = n - (end - from) / 6;
+    heads[row] = h - 262144 * gone as u64;
+    Counts {
+        rows: c.rows,
+        marks: c.marks,
+        values: live - gone,
+    }
+}
+
+// Puts a value among a row's values, which have none of its id: its kind, and four words.
+pub fn add_value(
+    heads: &mut [u64],
+    values: &mut [u64],
+    c: Counts,
+    s: Stop,
+    id: u64,
+    kind: u64,
+    words: [u64; 4],
+) -> Counts
+    ensures { λ r. ⌜ Adds s id (kind ∷ words) c (now (heads .entry)) (now (values .entry)) r (now (heads .exit)) (now (values .exit)) ⌝ }
+{
+    let row = s.row;
+    let first = s.value;
+    let live = c.values;
+    if row >= heads.len() {
+        return c;
+    }
+    if live >= 257 {
+        return c;
+    }
+    if values.len() < 6 * live + 6 {
+        return c;
+    }
+    let h = heads[row];
+    if h >= 134217728 {
+        return c;
+    }
+    let n = values_of(h);
+    if first > live {
+        return c;
+    }
+    if n > live - first {
+        return c;
+    }
+    let from = 6 * first;
+    let k = rank_values(values, from, n, id);
+    let at = from + k * 6;
+    open(values, 6 * live, at, 6);
+    write_words(
+        values,
+        at,
+        [id, kind, words[0], words[1], words[2], words[3]],
+    );
+    heads[row] = h + 262144;
+    Counts {
+        rows: c.rows,
+        marks: c.marks,
+        values: live + 1,
+    }
+}
