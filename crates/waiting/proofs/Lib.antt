@@ -1,0 +1,4 @@
+pub mod Copies
+pub mod Ops
+pub mod Holds
+pub mod Told

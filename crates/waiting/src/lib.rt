@@ -128,11 +128,10 @@ fn counters_at(t: &[u64], from: usize) -> Counters
 }
 
 // Writes counters from `at` on.
-fn lay_counters(t: &mut [u64], at: usize, d: Counters)
+fn lay_counters(t: &mut [u64], at: usize, deps: [u32; 8])
     requires { ⌜ at + 8 ≤ length (now t) ⌝ }
-    ensures { λ _. ⌜ now (t .exit) ≡ overAt at (d .at) (now (t .entry)) ⌝ }
+    ensures { λ _. ⌜ now (t .exit) ≡ overAt at deps (now (t .entry)) ⌝ }
 {
-    let deps = d.at;
     let mut i: usize = 0;
     while i < 8 {
         t[at + i] = deps[i] as u64;
@@ -147,7 +146,8 @@ fn write_row(t: &mut [u64], at: usize, op: Operation)
         ⌜ now (t .exit)
         ≡ overAt at (rowWords (op .id) (op .deps .at) (op .way .keys) (op .way .n) (op .deed) (op .words)) (now (t .entry)) ⌝ }
 {
-    let deps = op.deps;
+    let counters = op.deps;
+    let deps = counters.at;
     let way = op.way;
     let keys = way.keys;
     let n = way.n;
@@ -257,7 +257,7 @@ pub fn waits(t: &[u64], n: usize, id: u64) -> bool
     if k >= n {
         return false;
     }
-    t[40 * k] == id
+    id == t[40 * k]
 }
 
 // Puts an operation among those that wait, none of which has its id, and answers how many they are.
