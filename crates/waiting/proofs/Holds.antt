@@ -36,13 +36,13 @@ module _ (t : List ℕ) (n : ℕ) (os : List Operation) (W : Waits t n os) where
   pub rank-is : (id : ℕ) → rankRows 40 id n (drop 0 t) ≡ rankOf idOf id os
   rank-is id = rw (W .table, W .count) (flat-rank 40 opWords idOf strides-ops id os (replicate (room - length (flat opWords os)) 0))
 
+-- the words behind a row
+abbrev pub behind : List Operation → Operation → List Operation → List ℕ
+behind A o R = flat opWords R ++ replicate (room - length (flat opWords (A ++ o ∷ R))) 0
+
 -- The operation at i.
 module _ (t : List ℕ) (n i : ℕ) (A R : List Operation) (o : Operation) (W : Waits t n (A ++ o ∷ R)) (e : i ≡ length A) where
-  -- what stands behind its row
-  behind : List ℕ
-  behind = flat opWords R ++ replicate (room - length (flat opWords (A ++ o ∷ R))) 0
-
-  pub there : t ≡ flat opWords A ++ (opWords o ++ (flat opWords R ++ replicate (room - length (flat opWords (A ++ o ∷ R))) 0))
+  pub there : t ≡ flat opWords A ++ (opWords o ++ behind A o R)
   there =
       W .table
       ∙ (ap (λ z. z ++ replicate (room - length (flat opWords (A ++ o ∷ R))) 0) (flat-between 40 opWords idOf strides-ops A o R)

@@ -16,23 +16,23 @@ use Rattle.message.specs.declared.Operation as M
 use Rattle.waiting.specs.Rows.{counters, rowWords, opWords, ReadsRow}
 use Rattle.waiting.specs.Waits.{room, idOf, TellsId, TellsDeps, Tells, TellsWaits, Puts, TakesOut}
 use Rattle.waiting.proofs.Ops.{op-long, means-words, id-there, deps-there, row-means}
-use Rattle.waiting.proofs.Holds.{table-long, rank-is, there, before-long, all-at, taken-out, waits-past, waits-at, put-in}
+use Rattle.waiting.proofs.Holds.{table-long, rank-is, behind, there, before-long, all-at, taken-out, waits-past, waits-at, put-in}
 
 module _ (t : List ℕ) (n i : ℕ) where
   pub tells-id : (r : ℕ) → r ≡ getD t (40 * i) 0 → TellsId t n i r
   unfolding TellsId
   tells-id r q A R o W e =
-      q ∙ rw (there t n i A R o W e) (id-there _ _ o (40 * i) (before-long t n i A R o W e) (all-at ValidOperation A R o (W .valid)))
+      q ∙ rw (there t n i A R o W e) (id-there (flat opWords A) (behind A o R) o (40 * i) (before-long t n i A R o W e) (all-at ValidOperation A R o (W .valid)))
 
   pub tells-deps : (r : List ℕ) → r ≡ counters (run (40 * i + 1) 8 t) → TellsDeps t n i r
   unfolding TellsDeps
   tells-deps r q A R o W e =
-      q ∙ rw (there t n i A R o W e) (deps-there _ _ o (40 * i) (before-long t n i A R o W e) (all-at ValidOperation A R o (W .valid)))
+      q ∙ rw (there t n i A R o W e) (deps-there (flat opWords A) (behind A o R) o (40 * i) (before-long t n i A R o W e) (all-at ValidOperation A R o (W .valid)))
 
   pub tells : (r : M.Operation) → ReadsRow t (40 * i) r → Tells t n i r
   unfolding Tells
   tells r q A R o W e =
-      row-means _ _ o (40 * i) (before-long t n i A R o W e) (all-at ValidOperation A R o (W .valid)) r (rw (there t n i A R o W e) at q)
+      row-means (flat opWords A) (behind A o R) o (40 * i) (before-long t n i A R o W e) (all-at ValidOperation A R o (W .valid)) r (rw (there t n i A R o W e) at q)
 
   pub takes-out : (t′ : List ℕ) → t′ ≡ closed 0 (40 * n) (40 * i + 40) (40 * i) t → TakesOut t n i t′ (n - 1)
   unfolding TakesOut

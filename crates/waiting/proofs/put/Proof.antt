@@ -37,7 +37,7 @@ same-length : tie.Need-same-length
 same-length c = search needs
 
 returns-3 : tie.Need-returns-3
-returns-3 c = puts _ _ _ _ _ _ (@rank-rows.ensures) (@open.ensures) (@write-row.ensures)
+returns-3 c = puts _ _ _ _ _ _ (c .before .before .before .before .before .before .before .before .rank-rows .ensures) (c .before .before .before .before .before .before .«open» .ensures) (c .before .before .write-row .ensures)
 
 pub put-spec : {M : Type 1} → statement M
 put-spec =
