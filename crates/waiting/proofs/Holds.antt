@@ -75,7 +75,7 @@ asc-but number (x ∷ A) R o s = (λ j h. s .0 j (has-but number A R o j h), asc
 
 -- One less.
 pub taken-out : (t t′ : List ℕ) (n i : ℕ) (A R : List Operation) (o : Operation) → Waits t n (A ++ o ∷ R) → i ≡ length A
-    → t′ ≡ closed 0 (40 * n) (40 * i + 40) (40 * i) t → Gone t n i A R t′ (n - 1)
+    → t′ ≡ closed 0 (40 * n) (40 * i + 40) (40 * i) t → Gone n (A ++ R) t′ (n - 1)
 taken-out t t′ n i A R o W e c =
     let l = length-append A (o ∷ R) in
     let m = length-append A R in
@@ -144,8 +144,13 @@ waits-at id (x ∷ xs) rest s h = go (tri (x .id) id) (λ q. waits-at id xs rest
         let r = rank-yes idOf id x xs q in
         let l = op-long x in
         let k : 40 * suc (rankOf idOf id xs) ≡ length (opWords x) + 40 * rankOf idOf id xs = omega arith in
-        rw (ne-eqb id (x .id) (λ e. omega arith), r, k, append-assoc (opWords x) (flat opWords xs) rest,
-          getD-append-add (opWords x) (flat opWords xs ++ rest) (40 * rankOf idOf id xs) 0)
+        rw (
+          ne-eqb id (x .id) (λ e. omega arith),
+          r,
+          k,
+          append-assoc (opWords x) (flat opWords xs) rest,
+          getD-append-add (opWords x) (flat opWords xs ++ rest) (40 * rankOf idOf id xs) 0,
+        )
         (w (omega arith))
     go (same e) w = rw (rank-no idOf id x xs (omega arith), first x (flat opWords xs) rest, eq-eqb id (x .id) (sym e))
     go (more q) w =

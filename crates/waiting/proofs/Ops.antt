@@ -174,7 +174,7 @@ module _ (X Y : List ℕ) (o : Operation) (at : ℕ) (e : length X ≡ at) (v : 
       rw (
         run-inside X (opWords o) Y at e 1 8 (omega (arith, op-long o)),
         row-deps (o .id) (pad 8 (o .deps)) (pad 24 (keyWords (o .top) ++ wayWords (o .way))) (suc (steps (o .way))) (deedOf (o .way))
-        (deedWords (o .way)) (pad-long 8 (o .deps)) (pad-long 24 _),
+            (deedWords (o .way)) (pad-long 8 (o .deps)) (pad-long 24 _),
         pad-same 8 (o .deps) (v .deps .eight),
       ) (counters-same (o .deps) (v .deps .each))
 

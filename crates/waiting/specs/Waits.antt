@@ -52,11 +52,11 @@ Puts op t n t′ r =
     (os : List Operation) (o : Operation) → Means op o → ValidOperation o → Waits t n os → waits (o .id) os ≡ false → n < 64
     → Waits t′ r (put idOf o os)
 
--- the one at i is gone
-pub record Gone (t : List ℕ) (n i : ℕ) (A R : List Operation) (t′ : List ℕ) (r : ℕ) : Type 0 where
-  pub waits : Waits t′ r (A ++ R)
+-- one is gone, and those that are left are os
+pub record Gone (n : ℕ) (os : List Operation) (t′ : List ℕ) (r : ℕ) : Type 0 where
+  pub waits : Waits t′ r os
   pub fewer : r + 1 ≡ n
 
 unfoldable pub TakesOut : List ℕ → ℕ → ℕ → List ℕ → ℕ → Type 0
 TakesOut t n i t′ r =
-    (A R : List Operation) (o : Operation) → Waits t n (A ++ o ∷ R) → i ≡ length A → Gone t n i A R t′ r
+    (A R : List Operation) (o : Operation) → Waits t n (A ++ o ∷ R) → i ≡ length A → Gone n (A ++ R) t′ r

@@ -1,12 +1,12 @@
--- `waiting::write_row` meets its contract: the parts of the row, one behind another. Assumes nothing.
+-- `waiting::row::write_row` meets its contract: the parts of the row, one behind another. Assumes nothing.
 use Prim.Native.Nat.{_+_, _≤_}
 use mathlib.Core.Path.{_≡_, sym, ap, _∙_}
 use native.Mathlib.Omega.{arith}
 use lib.ListN.{length, length-set}
 use Rattle.waiting.proofs.Written.{written}
 use borrow.Author.Needs.{needs}
-use Rattle.waiting.proofs.write_row.Statement.{statement}
-use Rattle.waiting.proofs.write_row.Tie as tie
+use Rattle.waiting.proofs.row.write_row.Statement.{statement}
+use Rattle.waiting.proofs.row.write_row.Tie as tie
 
 -- the lengths of the arrays
 eight : (c : tie.Start) → length (c .args .op .deps .at) ≡ 8

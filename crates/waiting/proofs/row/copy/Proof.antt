@@ -1,12 +1,12 @@
--- `waiting::copy` meets its contract: i words have been copied. Assumes nothing.
+-- `waiting::row::copy` meets its contract: i words have been copied. Assumes nothing.
 use Prim.Native.Nat.{_-_, _≤_}
 use lib.ListN.{length}
 use Rattle.words.specs.Words.{run}
 use Rattle.words.proofs.Moves.{Laying, laying-start}
 use Rattle.waiting.proofs.Copies.{copy-step, copy-done}
 use borrow.Author.Needs.{needs}
-use Rattle.waiting.proofs.copy.Statement.{statement}
-use Rattle.waiting.proofs.copy.Tie as tie
+use Rattle.waiting.proofs.row.copy.Statement.{statement}
+use Rattle.waiting.proofs.row.copy.Tie as tie
 
 abbrev Inv-loop : tie.InvT-loop
 Inv-loop t from to₀ i₀ to i = (i ≤ length to₀) × Laying 0 i (run from (length to₀) t) to₀ to

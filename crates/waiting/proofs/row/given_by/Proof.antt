@@ -1,8 +1,8 @@
--- `waiting::given_by` meets its contract: case by case. Assumes nothing.
+-- `waiting::row::given_by` meets its contract: case by case. Assumes nothing.
 use borrow.Author.Tests.{ne-eqb}
 use Rattle.waiting.specs.Rows.{givenBy}
-use Rattle.waiting.proofs.given_by.Statement.{statement}
-use Rattle.waiting.proofs.given_by.Tie as tie
+use Rattle.waiting.proofs.row.given_by.Statement.{statement}
+use Rattle.waiting.proofs.row.given_by.Tie as tie
 
 returns : tie.Need-returns
 unfolding givenBy

@@ -1,4 +1,4 @@
--- `waiting::counters_at` meets its contract: i counters have been read. Assumes nothing.
+-- `waiting::row::counters_at` meets its contract: i counters have been read. Assumes nothing.
 use Prim.Native.Nat.{_-_, _≤_}
 use mathlib.Core.Path.{_≡_, refl}
 use lib.ListN.{length}
@@ -7,8 +7,8 @@ use Rattle.words.proofs.Moves.{Laying, laying-start}
 use Rattle.waiting.specs.Rows.{counters}
 use Rattle.waiting.proofs.Copies.{counters-step, counters-done}
 use borrow.Author.Needs.{needs}
-use Rattle.waiting.proofs.counters_at.Statement.{statement}
-use Rattle.waiting.proofs.counters_at.Tie as tie
+use Rattle.waiting.proofs.row.counters_at.Statement.{statement}
+use Rattle.waiting.proofs.row.counters_at.Tie as tie
 
 abbrev Inv-loop : tie.InvT-loop
 Inv-loop t from at₀ i₀ at i = (i ≤ 8) × (length at₀ ≡ 8) × Laying 0 i (counters (run from 8 t)) at₀ at

@@ -1,11 +1,11 @@
--- `waiting::lay_counters` meets its contract: i counters have been written. Assumes nothing.
+-- `waiting::row::lay_counters` meets its contract: i counters have been written. Assumes nothing.
 use Prim.Native.Nat.{_-_, _≤_}
 use mathlib.Core.Path.{_≡_, refl}
 use lib.ListN.{length}
 use Rattle.words.proofs.Moves.{Laying, laying-start, laying-step, laying-done}
 use borrow.Author.Needs.{needs}
-use Rattle.waiting.proofs.lay_counters.Statement.{statement}
-use Rattle.waiting.proofs.lay_counters.Tie as tie
+use Rattle.waiting.proofs.row.lay_counters.Statement.{statement}
+use Rattle.waiting.proofs.row.lay_counters.Tie as tie
 
 abbrev Inv-loop : tie.InvT-loop
 Inv-loop t₀ at deps i₀ t i = (i ≤ 8) × Laying at i deps t₀ t

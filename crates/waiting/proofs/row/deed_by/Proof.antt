@@ -1,10 +1,10 @@
--- `waiting::deed_by` meets its contract. Assumes nothing.
+-- `waiting::row::deed_by` meets its contract. Assumes nothing.
 use mathlib.Core.Path.{ap}
 use borrow.Author.Tests.{lt-ltb, le-ltb, eq-eqb, ne-eqb}
 use Rattle.waiting.specs.Rows.{deedBy}
 use borrow.Author.Needs.{needs}
-use Rattle.waiting.proofs.deed_by.Statement.{statement}
-use Rattle.waiting.proofs.deed_by.Tie as tie
+use Rattle.waiting.proofs.row.deed_by.Statement.{statement}
+use Rattle.waiting.proofs.row.deed_by.Tie as tie
 
 returns : tie.Need-returns
 unfolding deedBy

@@ -1,10 +1,10 @@
--- `waiting::deed_code` meets its contract. Assumes nothing.
+-- `waiting::row::deed_code` meets its contract. Assumes nothing.
 use Prim.Native.Nat.{_+_}
 use mathlib.Core.Path.{sym, ap, _∙_}
 use Rattle.waiting.specs.Rows.{deedCode}
 use borrow.Author.Needs.{needs}
-use Rattle.waiting.proofs.deed_code.Statement.{statement}
-use Rattle.waiting.proofs.deed_code.Tie as tie
+use Rattle.waiting.proofs.row.deed_code.Statement.{statement}
+use Rattle.waiting.proofs.row.deed_code.Tie as tie
 
 enum-known-d : tie.Need-enum-known-d
 enum-known-d c = search needs
