@@ -25,17 +25,16 @@ pub fill-done : (i : ℕ) (S t₀ t : List ℕ) → length S ≡ length t₀ →
 fill-done i S t₀ t l h L = laying-done 0 i S t₀ t h L ∙ over-all S t₀ l
 
 -- words of a table
-pub copy-step : (from i : ℕ) (t to₀ to : List ℕ) → from + length to₀ ≤ length t → i < length to₀ → Laying 0 i (run from (length to₀) t) to₀ to
-    → Laying 0 (i + 1) (run from (length to₀) t) to₀ (set to i (getD t (from + i) 0))
-copy-step from i t to₀ to k h L =
-    let l = run-length from (length to₀) t k in
-    fill-step i (run from (length to₀) t) to₀ to l (omega arith) L _ (sym (run-at from (length to₀) i t h))
+module _ (from i : ℕ) (t to₀ to : List ℕ) (k : from + length to₀ ≤ length t) (L : Laying 0 i (run from (length to₀) t) to₀ to) where
+  pub copy-step : i < length to₀ → Laying 0 (i + 1) (run from (length to₀) t) to₀ (set to i (getD t (from + i) 0))
+  copy-step h =
+      let l = run-length from (length to₀) t k in
+      fill-step i (run from (length to₀) t) to₀ to l (omega arith) L _ (sym (run-at from (length to₀) i t h))
 
-pub copy-done : (from i : ℕ) (t to₀ to : List ℕ) → from + length to₀ ≤ length t → length to₀ ≤ i → Laying 0 i (run from (length to₀) t) to₀ to
-    → to ≡ run from (length to₀) t
-copy-done from i t to₀ to k h L =
-    let l = run-length from (length to₀) t k in
-    fill-done i (run from (length to₀) t) to₀ to l (omega arith) L
+  pub copy-done : length to₀ ≤ i → to ≡ run from (length to₀) t
+  copy-done h =
+      let l = run-length from (length to₀) t k in
+      fill-done i (run from (length to₀) t) to₀ to l (omega arith) L
 
 -- counters of words
 pub counters-length : (xs : List ℕ) → length (counters xs) ≡ length xs
@@ -49,7 +48,8 @@ counters-at [] i = refl
 counters-at (x ∷ xs) zero = refl
 counters-at (x ∷ xs) (suc i) = counters-at xs i
 
-module _ (from i : ℕ) (t to₀ to : List ℕ) (k : from + 8 ≤ length t) (e : length to₀ ≡ 8) (L : Laying 0 i (counters (run from 8 t)) to₀ to) where
+module _ (from i : ℕ) (t to₀ to : List ℕ) (k : from + 8 ≤ length t) (e : length to₀ ≡ 8)
+    (L : Laying 0 i (counters (run from 8 t)) to₀ to) where
   long : length (counters (run from 8 t)) ≡ 8
   long = counters-length (run from 8 t) ∙ run-length from 8 t k
 

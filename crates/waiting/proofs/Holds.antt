@@ -154,7 +154,8 @@ waits-at id (x ∷ xs) rest s h = go (tri (x .id) id) (λ q. waits-at id xs rest
         (w (omega arith))
     go (same e) w = rw (rank-no idOf id x xs (omega arith), first x (flat opWords xs) rest, eq-eqb id (x .id) (sym e))
     go (more q) w =
-        rw (rank-no idOf id x xs (omega arith), first x (flat opWords xs) rest, waits-above id xs (λ j m. omega (arith, s .0 j m)), ne-eqb id (x .id) (λ e. omega arith))
+        let b = waits-above id xs (λ j m. omega (arith, s .0 j m)) in
+        rw (rank-no idOf id x xs (omega arith), first x (flat opWords xs) rest, b, ne-eqb id (x .id) (λ e. omega arith))
 
 pub new : (id : ℕ) (os : List Operation) → waits id os ≡ false → Has idOf id os → ⊥
 new id os e h = absurd (cc-true (sym (waits-has id os h) ∙ e))

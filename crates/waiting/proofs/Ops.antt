@@ -61,9 +61,6 @@ deed-long (intoList e w) = deed-long w
 
 -- A row in parts.
 module _ (id : ℕ) (deps keys : List ℕ) (n : ℕ) (d : Deed) (value : List ℕ) (e : length deps ≡ 8) (f : length keys ≡ 24) where
-  last : List ℕ
-  last = n ∷ deedCode d ∷ deedNumber d ∷ value
-
   pub row-long : length value ≡ 4 → length (rowWords id deps keys n d value) ≡ 40
   row-long g = simp length-append (omega arith)
 
@@ -88,9 +85,6 @@ module _ (id : ℕ) (deps keys : List ℕ) (n : ℕ) (d : Deed) (value : List �
 
 -- The row of an operation.
 module _ (o : Operation) where
-  keysOf : List ℕ
-  keysOf = pad 24 (keyWords (o .top) ++ wayWords (o .way))
-
   pub op-long : length (opWords o) ≡ 40
   unfolding opWords
   op-long =
@@ -110,17 +104,6 @@ means-words op o m v =
     rw (m .id, m .deps, m .edit .keys, m .edit .count, m .edit .deed, m .edit .words, d)
 
 -- What is done, by its code and its number.
-given-back : (g : Given) → givenBy (givenCode g) (givenNumber g) ≡ g
-unfolding givenBy
-given-back G.Null = refl
-given-back G.True = refl
-given-back G.False = refl
-given-back (G.NonNeg n) = refl
-given-back (G.Neg n) = refl
-given-back (G.String n) = refl
-given-back G.Map = refl
-given-back G.List = refl
-
 deed-back : (d : Deed) → deedBy (deedCode d) (deedNumber d) ≡ d
 unfolding deedBy givenBy
 deed-back (D.Assign G.Null) = refl
@@ -191,6 +174,7 @@ module _ (X Y : List ℕ) (o : Operation) (at : ℕ) (e : length X ≡ at) (v : 
   pub row-means : (r : M.Operation) → ReadsRow (X ++ (opWords o ++ Y)) at r → Means r o
   unfolding opWords
   row-means r R =
+      let K : List ℕ = pad 24 (keyWords (o .top) ++ wayWords (o .way)) in
       let l = op-long o in
       let f = pad-long 8 (o .deps) in
       let g = pad-long 24 (keyWords (o .top) ++ wayWords (o .way)) in
@@ -200,15 +184,13 @@ module _ (X Y : List ℕ) (o : Operation) (at : ℕ) (e : length X ≡ at) (v : 
         edit = record {
           keys =
               R .keys ∙ (run-inside X (opWords o) Y at e 9 24 (omega arith)
-              ∙ row-keys (o .id) (pad 8 (o .deps)) (pad 24 (keyWords (o .top) ++ wayWords (o .way))) (suc (steps (o .way))) (deedOf (o .way))
-              (deedWords (o .way)) f g);
+              ∙ row-keys (o .id) (pad 8 (o .deps)) K (suc (steps (o .way))) (deedOf (o .way)) (deedWords (o .way)) f g);
           count = R .count ∙ number-there 0 (omega arith);
           deed =
               R .deed ∙ (ap (λ c. deedBy c (getD (X ++ (opWords o ++ Y)) (at + 35) 0)) (number-there 1 (omega arith))
               ∙ (ap (deedBy (deedCode (deedOf (o .way)))) (number-there 2 (omega arith)) ∙ deed-back (deedOf (o .way))));
           words =
               R .words ∙ (run-inside X (opWords o) Y at e 36 4 (omega arith)
-              ∙ row-value (o .id) (pad 8 (o .deps)) (pad 24 (keyWords (o .top) ++ wayWords (o .way))) (suc (steps (o .way))) (deedOf (o .way))
-              (deedWords (o .way)) f g (deed-long (o .way)));
+              ∙ row-value (o .id) (pad 8 (o .deps)) K (suc (steps (o .way))) (deedOf (o .way)) (deedWords (o .way)) f g (deed-long (o .way)));
         };
       }

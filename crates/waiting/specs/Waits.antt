@@ -5,6 +5,7 @@ use Prim.Native.Nat.{ℕ, _+_, _≤_, _<_}
 use mathlib.Core.Path.{_≡_}
 use mathlib.Core.Bool.{Bool, false}
 use mathlib.Core.List.{List, _∷_, _++_}
+use mathlib.Core.Logic.{_⊎_}
 use lib.ListN.{length}
 use Rattle.meaning.specs.Members.{All, Ascending}
 use Rattle.meaning.specs.Receive.{waits}
@@ -46,11 +47,12 @@ Tells t n i r = (A R : List Operation) (o : Operation) → Waits t n (A ++ o ∷
 unfoldable pub TellsWaits : List ℕ → ℕ → ℕ → Bool → Type 0
 TellsWaits t n id r = (os : List Operation) → Waits t n os → r ≡ waits id os
 
--- one more, which didn't wait
-unfoldable pub Puts : M.Operation → List ℕ → ℕ → List ℕ → ℕ → Type 0
-Puts op t n t′ r =
-    (os : List Operation) (o : Operation) → Means op o → ValidOperation o → Waits t n os → waits (o .id) os ≡ false → n < 64
-    → Waits t′ r (put idOf o os)
+-- One more, which didn't wait. A full table, or one that is too short, stays as it was.
+pub record Puts (op : M.Operation) (t : List ℕ) (n : ℕ) (t′ : List ℕ) (r : ℕ) : Type 0 where
+  pub waits :
+      (os : List Operation) (o : Operation) → Means op o → ValidOperation o → Waits t n os → waits (o .id) os ≡ false → n < 64
+      → Waits t′ r (put idOf o os)
+  pub stays : (64 ≤ n) ⊎ (length t < room) → (t′ ≡ t) × (r ≡ n)
 
 -- one is gone, and those that are left are os
 pub record Gone (n : ℕ) (os : List Operation) (t′ : List ℕ) (r : ℕ) : Type 0 where

@@ -1,19 +1,14 @@
 -- `waiting::put` meets its contract: a row is opened at the rank of its id, and written. Assumes nothing.
-use native.Mathlib.Omega.{arith}
-use Rattle.waiting.specs.Waits.{Puts}
-use Rattle.waiting.proofs.Holds.{table-long}
-use Rattle.waiting.proofs.Told.{puts}
+use Rattle.waiting.proofs.Told.{puts, full, short}
 use borrow.Author.Needs.{needs}
 use Rattle.waiting.proofs.put.Statement.{statement}
 use Rattle.waiting.proofs.put.Tie as tie
 
 returns : tie.Need-returns
-unfolding Puts
-returns c os o m v W u h = absurd (omega (arith, table-long _ _ _ W, c .if1 .taken))
+returns c = short _ _ _ (c .if1 .taken)
 
 returns-2 : tie.Need-returns-2
-unfolding Puts
-returns-2 c os o m v W u h = absurd (omega (arith, h, c .if2 .taken))
+returns-2 c = full _ _ _ (c .if2 .taken)
 
 rank-rows-requires : tie.Need-rank-rows-requires
 rank-rows-requires c κs = search needs
@@ -37,7 +32,12 @@ same-length : tie.Need-same-length
 same-length c = search needs
 
 returns-3 : tie.Need-returns-3
-returns-3 c = puts _ _ _ _ _ _ (c .before .before .before .before .before .before .before .before .rank-rows .ensures) (c .before .before .before .before .before .before .«open» .ensures) (c .before .before .write-row .ensures)
+returns-3 c =
+    let w = c .before .before in
+    let o = w .before .before .before .before in
+    let k = o .before .before in
+    let g = k .before .before in
+    puts _ _ _ _ _ _ (g .before .if1 .left) (g .if2 .left) (k .rank-rows .ensures) (o .«open» .ensures) (w .write-row .ensures)
 
 pub put-spec : {M : Type 1} → statement M
 put-spec =

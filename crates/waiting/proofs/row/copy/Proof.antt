@@ -41,13 +41,13 @@ loop-less c = search needs
 loop-again : tie.Need-loop-again Inv-loop μ-loop
 loop-again c =
     let l = c .before .before .loop in
-    (search needs, copy-step _ _ _ _ _ (c .before .before .before .pre) (search needs) (l .inv .1))
+    (search needs, copy-step _ _ _ _ _ (c .before .before .before .pre) (l .inv .1) (search needs))
 
 same-length : tie.Need-same-length Inv-loop μ-loop
 same-length c = c .before .loop .inv .1 .len
 
 returns : tie.Need-returns Inv-loop μ-loop
-returns c = copy-done _ _ _ _ _ (c .before .before .pre) (search needs) (c .before .loop .inv .1)
+returns c = copy-done _ _ _ _ _ (c .before .before .pre) (c .before .loop .inv .1) (search needs)
 
 pub copy-spec : {M : Type 1} → statement M
 copy-spec =

@@ -18,6 +18,19 @@ keys-long c = search needs
 words-long : (c : tie.Start) → length (c .args .op .words) ≡ 4
 words-long c = search needs
 
+-- the table keeps its length, part by part; `begin` is the entry, seen from the first
+abbrev begin : tie.After-lay-counters → tie.Start
+begin c = c .before .before .before .before .before .before .before .before
+
+first-long : (c : tie.After-lay-counters) → length (c .lay-counters .last .0) ≡ length (begin c .args .t .now)
+first-long c = simp length-set at (c .lay-counters .kept .0)
+
+second-long : (c : tie.After-lay) → length (c .lay .last .0) ≡ length (begin (c .before .before .before .before .before) .args .t .now)
+second-long c = c .lay .kept .0 ∙ first-long (c .before .before .before .before .before)
+
+third-long : (c : tie.After-write3) → length (c .write3 .last .0) ≡ length (begin (c .before .before .before .before .before .before .before .before .before .before .before) .args .t .now)
+third-long c = c .write3 .kept .0 ∙ second-long (c .before .before .before .before .before .before)
+
 mul-t : tie.Need-mul-t
 mul-t c = search needs
 
@@ -37,7 +50,9 @@ slice-aggregate-lay : tie.Need-slice-aggregate-lay
 slice-aggregate-lay c = search needs
 
 lay-requires : tie.Need-lay-requires
-lay-requires c κs = omega (arith, c .before .before .before .before .before .before .before .before .before .before .before .before .pre, keys-long (c .before .before .before .before .before .before .before .before .before .before .before .before), simp length-set at (c .before .before .before .before .lay-counters .kept .0))
+lay-requires c κs =
+    let d = c .before .before .before .before in
+    omega (arith, begin d .pre, keys-long (begin d), first-long d)
 
 add-write3 : tie.Need-add-write3
 add-write3 c = search needs
@@ -49,7 +64,9 @@ deed-number-requires : tie.Need-deed-number-requires
 deed-number-requires c κs = search needs
 
 write3-requires : tie.Need-write3-requires
-write3-requires c κs = omega (arith, c .before .before .before .before .before .before .before .before .before .before .before .before .before .before .before .before .before .before .pre, simp length-set at (c .before .before .before .before .before .before .before .before .before .before .lay-counters .kept .0), c .before .before .before .before .before .lay .kept .0)
+write3-requires c κs =
+    let k = c .before .before .before .before .before in
+    omega (arith, begin (k .before .before .before .before .before) .pre, second-long k)
 
 add-lay-2 : tie.Need-add-lay-2
 add-lay-2 c = search needs
@@ -58,16 +75,23 @@ slice-aggregate-lay-2 : tie.Need-slice-aggregate-lay-2
 slice-aggregate-lay-2 c = search needs
 
 lay-requires-2 : tie.Need-lay-requires-2
-lay-requires-2 c κs = omega (arith, c .before .before .before .before .before .before .before .before .before .before .before .before .before .before .before .before .before .before .before .before .before .before .before .pre, words-long (c .before .before .before .before .before .before .before .before .before .before .before .before .before .before .before .before .before .before .before .before .before .before .before), simp length-set at (c .before .before .before .before .before .before .before .before .before .before .before .before .before .before .before .lay-counters .kept .0), c .before .before .before .before .before .before .before .before .before .before .lay .kept .0, c .before .before .before .before .write3 .kept .0)
+lay-requires-2 c κs =
+    let w = c .before .before .before .before in
+    let s = begin (w .before .before .before .before .before .before .before .before .before .before .before) in
+    omega (arith, s .pre, words-long s, third-long w)
 
 same-length : tie.Need-same-length
-same-length c = c .before .before .lay2 .kept .0 ∙ (c .before .before .before .before .before .before .before .write3 .kept .0 ∙ (c .before .before .before .before .before .before .before .before .before .before .before .before .before .lay .kept .0 ∙ (c .before .before .before .before .before .before .before .before .before .before .before .before .before .before .before .before .before .before .lay-counters .kept .0 ∙ simp length-set)))
+same-length c = c .before .before .lay2 .kept .0 ∙ third-long (c .before .before .before .before .before .before .before)
 
 returns : tie.Need-returns
 returns c =
-    let s = c .before .before .before .before .before .before .before .before .before .before .before .before .before .before .before .before .before .before .before .before .before .before .before .before .before .before in
-    let w = rw (c .before .before .before .before .before .before .before .before .before .deed-code .ensures, c .before .before .before .before .before .before .before .before .deed-number .ensures) at (c .before .before .before .before .before .before .before .write3 .ensures) in
-    written _ _ _ _ _ _ _ _ _ _ _ _ _ (eight s) (keys-long s) (s .pre) (c .before .before .before .before .before .before .before .before .before .before .before .before .before .before .before .before .before .before .lay-counters .ensures) (c .before .before .before .before .before .before .before .before .before .before .before .before .before .lay .ensures) w (c .before .before .lay2 .ensures)
+    let w = c .before .before .before .before .before .before .before in
+    let k = w .before .before .before .before .before .before in
+    let d = k .before .before .before .before .before in
+    let s = begin d in
+    let n = rw (w .before .before .deed-code .ensures, w .before .deed-number .ensures) at (w .write3 .ensures) in
+    written _ _ _ _ _ _ _ _ _ _ _ _ _ (eight s) (keys-long s) (s .pre) (d .lay-counters .ensures) (k .lay .ensures) n
+    (c .before .before .lay2 .ensures)
 
 pub write-row-spec : {M : Type 1} → statement M
 write-row-spec =
