@@ -1,0 +1,64 @@
+-- The words of places and values, and the steps over the rows, as `src/lib.rt` takes them.
+-- Assumes nothing.
+use Prim.Native.Nat.{ℕ, _+_, _*_, _-_, _/_, _%_, _≤_, _<_}
+use native.Mathlib.Omega.{arith}
+use mathlib.Core.Path.{_≡_, refl}
+use mathlib.Core.List.{List, [], _∷_, _++_}
+use lib.Dec.{eqb}
+use lib.ListN.{getD}
+use Rattle.meaning.specs.Ascii.{ascii}
+use Rattle.meaning.specs.Sheet.{lineText, seenLine, placeLine, endLine}
+use Rattle.writers.specs.declared.Kind.{Kind}
+use Rattle.lines.specs.Rows.{valueOf}
+use Rattle.lines.specs.Spots.{spotOf}
+use Rattle.lines.specs.declared.Spot.{Spot}
+use Rattle.tables.specs.Words.{sideIn, marksAt, valuesAt, Tables}
+use Rattle.tables.specs.Seek.{further}
+use Rattle.tables.specs.Standing.{first}
+use Rattle.tables.specs.declared.Stop.{Stop}
+use Rattle.sheet.specs.Texts.{kindIn, spotIn, placeText, valueAt, marksText, valuesText, headAt, rowText, rowsText, sheetText, Near}
+
+-- a place line of the words that were read
+pub place-here : (h : ℕ) (keys : List ℕ) (row : ℕ) {hi lo len : ℕ} {spot : Spot}
+    → hi ≡ getD keys (3 * row) 0 → lo ≡ getD keys (3 * row + 1) 0 → len ≡ getD keys (3 * row + 2) 0
+    → spot ≡ spotIn (h / 16 % 2) (record { hi = hi; lo = lo; len = len })
+    → lineText (placeLine (h % 16) (spotOf spot) (eqb (h / 32 % 2) 1) (eqb (h / 64 % 2) 1)) ≡ placeText h keys row
+unfolding placeText
+place-here h keys row a b d e = rw (e, a, b, d)
+
+-- a value of the words that were read
+pub value-here : (values : List ℕ) (i : ℕ) {id k n x y z : ℕ} {kind : Kind}
+    → n ≡ getD values (6 * i + 2) 0 → k ≡ getD values (6 * i + 1) 0 → kind ≡ kindIn k n
+    → x ≡ getD values (6 * i + 3) 0 → y ≡ getD values (6 * i + 4) 0 → z ≡ getD values (6 * i + 5) 0 → id ≡ getD values (6 * i) 0
+    → valueOf id kind (n ∷ x ∷ y ∷ z ∷ []) ≡ valueAt values i
+unfolding valueAt
+value-here values i a b e x y z d = rw (e, b, a, x, y, z, d)
+
+-- a row, and the sheet, in pieces
+pub row-text : (T : Tables) (s : Stop)
+    → rowText T s
+    ≡ placeText (headAt T s) (T .keys) (s .row)
+    ++ (marksText (T .marks) (s .mark) (marksAt (headAt T s)) ++ valuesText (T .values) (s .value) (valuesAt (headAt T s)))
+unfolding rowText
+row-text T s = refl
+
+pub sheet-text : (T : Tables) (rows : ℕ) (seen : List ℕ)
+    → sheetText T rows seen ≡ ascii "sheet=1\n" ++ (lineText (seenLine seen) ++ (rowsText T first rows ++ lineText (endLine rows)))
+unfolding sheetText lineText
+sheet-text T rows seen = refl
+
+-- On the way over the rows: `left` of them are still to come.
+pub record Going (rows : ℕ) (s : Stop) (left : ℕ) : Type 0 where
+  pub row : s .row + left ≡ rows
+  pub mark : s .mark ≤ 2048 * s .row
+  pub value : s .value ≤ 512 * s .row
+
+pub going-first : (rows : ℕ) → Going rows first rows
+going-first rows = record { row = omega arith; mark = omega arith; value = omega arith }
+
+module _ (rows : ℕ) (s : Stop) (left : ℕ) (h : 0 < left) (g : Going rows s left) where
+  pub near : rows ≤ 264 → Near s
+  near f = record { row = omega (arith, g .row); mark = g .mark; value = g .value }
+
+  pub going-on : (w : ℕ) → Going rows (further s w) (left - 1)
+  going-on w = record { row = omega (arith, g .row); mark = omega (arith, g .mark); value = omega (arith, g .value) }

@@ -1,0 +1,56 @@
+-- `sheet::row_size` meets its contract.
+-- Assumes nothing.
+use native.Mathlib.Omega.{arith}
+use lib.ListN.{length-append}
+use Rattle.writers.proofs.Texts.{sized}
+use Rattle.tables.specs.Holding.{four}
+use Rattle.sheet.proofs.Rows.{row-text}
+use borrow.Author.Needs.{needs}
+use Rattle.sheet.proofs.row_size.Statement.{statement}
+use Rattle.sheet.proofs.row_size.Tie as tie
+use Rattle.sheet.proofs.row_size.Reads as reads
+use Rattle.sheet.proofs.row_size.Lts as lts
+use Rattle.sheet.proofs.marks_size.Reads as marks-size-reads
+use Rattle.sheet.proofs.place_size.Reads as place-size-reads
+use Rattle.sheet.proofs.values_size.Reads as values-size-reads
+use Rattle.sheet.proofs.word.Reads as word-reads
+
+-- src/lib.rt:215:9
+word-requires : tie.Need-word-requires
+word-requires c κs = search needs
+
+-- src/lib.rt:216:9
+place-size-requires : tie.Need-place-size-requires
+place-size-requires c κs = (c .before .before .before .before .before .pre .0, c .before .before .before .before .before .pre .1 .row)
+
+-- src/lib.rt:217:9
+marks-size-requires : tie.Need-marks-size-requires
+marks-size-requires c κs = (c .before .before .before .before .before .before .pre .0, omega (arith, c .before .before .before .before .before .before .pre .1 .row, c .before .before .before .before .before .before .pre .1 .mark))
+
+-- src/lib.rt:218:9
+values-size-requires : tie.Need-values-size-requires
+values-size-requires c κs = (c .before .before .before .before .before .before .before .pre .0, omega (arith, c .before .before .before .before .before .before .before .pre .1 .row, c .before .before .before .before .before .before .before .pre .1 .value))
+
+-- src/lib.rt:219:5
+add-result : tie.Need-add-result
+add-result c = omega (arith, c .before .before .place-size .ensures .most, c .before .marks-size .ensures .most)
+
+-- src/lib.rt:219:5
+add-result-2 : tie.Need-add-result-2
+add-result-2 c = omega (arith, c .before .before .place-size .ensures .most, c .before .marks-size .ensures .most, c .values-size .ensures .most)
+
+-- src/lib.rt:204:1
+returns : tie.Need-returns
+returns c = let e = c .before .before .before .word .ensures in let a = rw e at (c .before .before .place-size .ensures) in let b = rw e at (c .before .marks-size .ensures) in let d = rw e at (c .values-size .ensures) in sized _ (row-text (four (c .before .before .before .before .before .before .before .before .args .heads .now) (c .before .before .before .before .before .before .before .before .args .keys .now) (c .before .before .before .before .before .before .before .before .args .marks .now) (c .before .before .before .before .before .before .before .before .args .values .now)) (c .before .before .before .before .before .before .before .before .args .s)) (simp length-append (omega (arith, a .size, b .size, d .size))) (omega (arith, a .most, b .most, d .most))
+
+pub row-size-spec : {M : Type 1} → statement M
+row-size-spec =
+    tie.close
+    (tie.spec
+    word-requires
+    place-size-requires
+    marks-size-requires
+    values-size-requires
+    add-result
+    add-result-2
+    returns)

@@ -1,0 +1,48 @@
+use borrow.Author.Needs.{needs}
+use Rattle.sheet.proofs.save.Statement.{statement}
+use Rattle.sheet.proofs.save.Tie as tie
+use Rattle.sheet.proofs.save.Reads as reads
+use Rattle.sheet.proofs.save.Lts as lts
+use Rattle.decimal.proofs.powers.Reads as powers-reads
+use Rattle.sheet.proofs.put_sheet.Reads as put-sheet-reads
+use Rattle.sheet.proofs.sheet_size.Reads as sheet-size-reads
+
+-- src/lib.rt:361:9
+returns : tie.Need-returns
+returns c = ?
+
+-- src/lib.rt:363:13
+powers-requires : tie.Need-powers-requires
+powers-requires c κs = ?
+
+-- src/lib.rt:364:9
+sheet-size-requires : tie.Need-sheet-size-requires
+sheet-size-requires c κs = ?
+
+-- src/lib.rt:366:9
+returns-2 : tie.Need-returns-2
+returns-2 c = ?
+
+-- src/lib.rt:368:9
+put-sheet-requires : tie.Need-put-sheet-requires
+put-sheet-requires c κs = ?
+
+-- src/lib.rt:348:1
+same-length : tie.Need-same-length
+same-length c = ?
+
+-- src/lib.rt:348:1
+returns-3 : tie.Need-returns-3
+returns-3 c = ?
+
+pub save-spec : {M : Type 1} → statement M
+save-spec =
+    tie.close
+    (tie.spec
+    returns
+    powers-requires
+    sheet-size-requires
+    returns-2
+    put-sheet-requires
+    same-length
+    returns-3)
