@@ -42,6 +42,12 @@ pub row-text : (T : Tables) (s : Stop)
 unfolding rowText
 row-text T s = refl
 
+-- with the head that was read
+pub row-here : (T : Tables) (s : Stop) {h : ℕ} → h ≡ headAt T s
+    → rowText T s
+    ≡ placeText h (T .keys) (s .row) ++ (marksText (T .marks) (s .mark) (marksAt h) ++ valuesText (T .values) (s .value) (valuesAt h))
+row-here T s e = rw e (row-text T s)
+
 pub sheet-text : (T : Tables) (rows : ℕ) (seen : List ℕ)
     → sheetText T rows seen ≡ ascii "sheet=1\n" ++ (lineText (seenLine seen) ++ (rowsText T first rows ++ lineText (endLine rows)))
 unfolding sheetText lineText
