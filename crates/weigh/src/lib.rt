@@ -6,7 +6,7 @@ use tables::Stop;
 use words::covered_marks;
 use words::covered_values;
 ghost use mathlib.Core.Path.{_≡_};
-ghost use Rattle.weigh.specs.Goes.{RowGone, UnderGone, BlockGone};
+ghost use Rattle.weigh.specs.Goes.{RowGone, UnderGone, BlockGone, RowPast, RowDeep};
 
 // How many marks and values go.
 pub struct Lost {
@@ -83,30 +83,45 @@ pub fn gone_under(heads: &[u64], marks: &[u64], values: &[u64], rows: usize, fro
     sum
 }
 
-// The same of a block: the row at s and the deeper rows behind it.
-pub fn gone(heads: &[u64], marks: &[u64], values: &[u64], rows: usize, s: Stop, d: Counters) -> Lost
-    ensures { λ g. ⌜ BlockGone (now (heads .entry)) (now (marks .entry)) (now (values .entry)) rows s (d .at) g ⌝ }
+// The place behind a row.
+pub fn past_row(heads: &[u64], s: Stop) -> Stop
+    ensures { λ r. ⌜ RowPast (now (heads .entry)) s r ⌝ }
 {
     let row = s.row;
     if row >= heads.len() {
-        return Lost { marks: 0, values: 0 };
-    }
-    if row > 264 {
-        return Lost { marks: 0, values: 0 };
+        return s;
     }
     if s.mark > 1032 {
-        return Lost { marks: 0, values: 0 };
+        return s;
     }
     if s.value > 257 {
-        return Lost { marks: 0, values: 0 };
+        return s;
     }
     let h = heads[row];
-    let own = gone_row(heads, marks, values, s, d);
-    let next = Stop {
+    Stop {
         row: row + 1,
         mark: s.mark + (h / 128 % 2048) as usize,
         value: s.value + (h / 262144 % 512) as usize,
-    };
-    let under = gone_under(heads, marks, values, rows, next, h % 16, d);
+    }
+}
+
+// How deep a row is.
+pub fn depth_at(heads: &[u64], row: usize) -> u64
+    ensures { λ r. ⌜ RowDeep (now (heads .entry)) row r ⌝ }
+{
+    if row >= heads.len() {
+        return 0;
+    }
+    heads[row] % 16
+}
+
+// What goes of a block: of the row at s and the deeper rows behind it.
+pub fn gone(heads: &[u64], marks: &[u64], values: &[u64], rows: usize, s: Stop, d: Counters) -> Lost
+    ensures { λ g. ⌜ BlockGone (now (heads .entry)) (now (marks .entry)) (now (values .entry)) rows s (d .at) g ⌝ }
+{
+    let own = gone_row(heads, marks, values, s, d);
+    let next = past_row(heads, s);
+    let n = depth_at(heads, s.row);
+    let under = gone_under(heads, marks, values, rows, next, n, d);
     Lost { marks: own.marks + under.marks, values: own.values + under.values }
 }
