@@ -1,2 +1,5 @@
 pub mod Here
 pub mod Goes
+pub mod Looks
+pub mod Weights
+pub mod Ways
