@@ -3,3 +3,4 @@ pub mod Goes
 pub mod Looks
 pub mod Weights
 pub mod Ways
+pub mod Steps

@@ -37,17 +37,17 @@ use Rattle.weigh.proofs.Weights.{marked-marks, marked-places, mark-is}
 
 -- A key and what follows it.
 
-abbrev into : Spot → Way → Way
+abbrev pub into : Spot → Way → Way
 into (inMap k) w = intoMap k w
 into (inList e) w = intoList e w
 
-abbrev locateAt : ℕ → Spot → List Row → Located
+abbrev pub locateAt : ℕ → Spot → List Row → Located
 locateAt n p rs = locate n (passOf p) (meantOf p) rs
 
-false-true : (b : Bool) → b ≡ false → b ≡ true → ⊥
+pub false-true : (b : Bool) → b ≡ false → b ≡ true → ⊥
 false-true b f t = let z : _≡_ {A = ℕ} 0 1 = ap (λ b. cond b 1 0) (sym f ∙ t) in omega arith
 
-sees-there : (rs : List Row) (n : ℕ) (s : Sight) (l : Located) → Sees rs n s l → s .there ≡ isLocated l
+pub sees-there : (rs : List Row) (n : ℕ) (s : Sight) (l : Located) → Sees rs n s l → s .there ≡ isLocated l
 sees-there rs n s l (missing f x) = f ∙ sym (ap isLocated x)
 sees-there rs n s l (standing F r R y e b z x) = y ∙ sym (ap isLocated x)
 
@@ -59,7 +59,7 @@ firstly : (p : Spot) (hi lo len : ℕ) → hi ∷ lo ∷ len ∷ [] ≡ spotWord
 firstly p hi lo len e = ap (λ l. getD l 0 0) e
 
 module _ (d : List ℕ) (n : ℕ) (w : Way) (rs : List Row) (u : Weight) (there new : Bool) (hi lo len : ℕ) where
-  carry-into : (p : Spot) → hi ∷ lo ∷ len ∷ [] ≡ spotWords p → GoodSpot p → there ≡ isLocated (locateAt n p rs) → new ≡ makes w
+  pub carry-into : (p : Spot) → hi ∷ lo ∷ len ∷ [] ≡ spotWords p → GoodSpot p → there ≡ isLocated (locateAt n p rs) → new ≡ makes w
       → Weighs (ledRows d (suc n) w (underOf (locateAt n p rs))) (runChange d n w (orNew n p (locateAt n p rs))) u
       → Weighs (ledRows d n (into p w) rs) (underChange d n (into p w) rs) (carried u there (eqb len 17) (covered d hi) new)
   unfolding ledRows underChange locateKey locateElement
