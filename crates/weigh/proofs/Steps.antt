@@ -8,7 +8,8 @@ use mathlib.Core.Bool.{Bool, true, false, cond}
 use mathlib.Core.List.{List, [], _∷_, _++_, append-assoc, append-nil}
 use borrow.Author.Tests.{ltb-false}
 use lib.Dec.{eqb, ltb}
-use lib.ListN.{length, getD, drop, length-append, length-drop}
+use lib.ListN.{length, getD, take, drop, length-drop}
+use lib.Seq.{take-all}
 use Rattle.meaning.specs.Ids.{covered}
 use Rattle.meaning.specs.Valid.{ValidWay}
 use Rattle.meaning.specs.Ways.{Prev, head, after, Way, assign, delete, insert, intoMap, intoList, steps, makes}
@@ -154,7 +155,7 @@ module _ (h k m v : List ℕ) (rows : ℕ) (n : ℕ) (d : List ℕ) (deed : ℕ)
 
 module _ (h k m v : List ℕ) (rows : ℕ) (from : Stop) (n : ℕ) (hangs : Bool) (d : List ℕ) (deed : ℕ) (way : List ℕ) (s : Sight) (next : Stop)
     (x : Weight) where
-  pub step-weighed : 3 ≤ length way → (length way ≡ 3 → ⊥)
+  step-weighed : 3 ≤ length way → (length way ≡ 3 → ⊥)
       → Looks h k rows from n hangs (getD way 0 0) (getD way 1 0) (getD way 2 0) s → RowPast h (s .at) next
       → WayWeighed h k m v rows next (n + 1) (s .there) d deed (drop 3 way) x
       → WayWeighed h k m v rows from n hangs d deed way
@@ -205,3 +206,17 @@ module _ (h k m v : List ℕ) (rows : ℕ) (from : Stop) (n : ℕ) (hangs : Bool
           go c A B (inMap t) w H q f (ap (λ l. getD l 0 0 ∷ getD l 1 0 ∷ getD l 2 0 ∷ []) e) (ap (drop 3) e) g (ok .0) (ok .1) N
       all c A B (intoList i w) H q f e g ok N =
           go c A B (inList i) w H q f (ap (λ l. getD l 0 0 ∷ getD l 1 0 ∷ getD l 2 0 ∷ []) e) (ap (drop 3) e) g tt (ok .1) N
+
+  -- the same as the code has it: the rest of the way is a part of it, and each step has its result
+  pub part-weighed : (u y : Weight) (covers : Bool) → 3 ≤ length way → (length way ≡ 3 → ⊥)
+      → Looks h k rows from n hangs (getD way 0 0) (getD way 1 0) (getD way 2 0) s → RowPast h (s .at) next
+      → WayWeighed h k m v rows next (n + 1) (s .there) d deed (take (length way - 3) (drop 3 way)) x
+      → u ≡ marked x deed → covers ≡ covered d (getD way 0 0) → y ≡ carried u (s .there) (eqb (getD way 2 0) 17) covers true
+      → WayWeighed h k m v rows from n hangs d deed way y
+  part-weighed u y covers long more look past under a b e =
+      let whole = take-all (length way - 3) (drop 3 way) (omega (arith, length-drop 3 way)) in
+      let z = subst (λ l. WayWeighed h k m v rows next (n + 1) (s .there) d deed l x) whole under in
+      subst (WayWeighed h k m v rows from n hangs d deed way)
+      (sym (e ∙ (ap (λ u. carried u (s .there) (eqb (getD way 2 0) 17) covers true) a
+      ∙ ap (λ t. carried (marked x deed) (s .there) (eqb (getD way 2 0) 17) t true) b)))
+      (step-weighed long more look past z)

@@ -1,8 +1,10 @@
 -- `weigh::weigh_way` meets its contract. The measure: the words that are left of the way. Assumes nothing.
 use borrow.Author.Needs.{needs}
 use native.Mathlib.Omega.{arith}
+use mathlib.Core.Path.{_≡_, ap, _∙_}
 use lib.ListN.{length}
-use Rattle.weigh.proofs.Steps.{short-weighed, deep-weighed, last-weighed, step-weighed}
+use Rattle.weigh.proofs.Weights.{marked-places}
+use Rattle.weigh.proofs.Steps.{short-weighed, deep-weighed, last-weighed, part-weighed}
 use Prim.Native.Nat.{ℕ, _<_}
 use borrow.Fn.Kinds.{In}
 use borrow.Fn.PlainCycle.{Measures, is, falls, and}
@@ -384,7 +386,7 @@ weigh-way-mark-requires : (t : ℕ) → weigh-way-lts.Need-mark-requires (
   carry-reads.Asked,
   carry-reads.Learnt,
 ) (weigh-way-at t) weigh-way.Post
-weigh-way-mark-requires t c κs = search needs
+weigh-way-mark-requires t c κs = omega (arith, c .weigh-way .ensures .few-marks, c .before .weigh-way-arg .given .2, c .before .before .before .before .before .before .before .before .before .before .before .before .before .before .before .good .1 .1 .1 .1 .1 .1 .1 .1 .1 .1 .0 .1)
 
 -- src/lib.rt:423:34
 weigh-way-covered-requires : (t : ℕ) → weigh-way-lts.Need-covered-requires (
@@ -426,7 +428,10 @@ weigh-way-carry-requires : (t : ℕ) → weigh-way-lts.Need-carry-requires (
   carry-reads.Asked,
   carry-reads.Learnt,
 ) (weigh-way-at t) weigh-way.Post
-weigh-way-carry-requires t c κs = search needs
+weigh-way-carry-requires t c κs =
+    let e : c .before .mark .result .places ≡ c .before .before .weigh-way .result .places =
+    ap (λ u. u .places) (c .before .mark .ensures) ∙ marked-places _ _ in
+    omega (arith, e, c .before .before .weigh-way .ensures .few-places, c .before .before .before .weigh-way-arg .given .2, c .before .before .before .before .before .before .before .before .before .before .before .before .before .before .before .before .before .good .1 .1 .1 .1 .1 .1 .1 .1 .1 .1 .0 .1)
 
 -- src/lib.rt:404:1
 weigh-way-returns-4 : (t : ℕ) → weigh-way-lts.Need-returns-4 (
@@ -447,7 +452,9 @@ weigh-way-returns-4 : (t : ℕ) → weigh-way-lts.Need-returns-4 (
   carry-reads.Asked,
   carry-reads.Learnt,
 ) (weigh-way-at t) weigh-way.Post
-weigh-way-returns-4 t c = ?
+weigh-way-returns-4 t c =
+    part-weighed _ _ _ _ _ _ _ _ _ _ _ _ _ _ _ _ _ (c .before .before .before .before .before .before .before .before .before .before .before .before .if1 .left) (c .before .before .before .before .before .before .before .if3 .left) (c .before .before .before .before .before .before .look .ensures) (c .before .before .before .before .before .past-row .ensures)
+    (c .before .before .before .weigh-way .ensures) (c .before .before .mark .ensures) (c .before .covered .ensures) (c .carry .ensures)
 
 pub +weigh-way-spec : {M : Type 1} → statement M
 +weigh-way-spec = close μ-weigh-way λ t. weigh-way-lts.spec (
