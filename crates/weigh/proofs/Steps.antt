@@ -8,13 +8,10 @@ use mathlib.Core.Bool.{Bool, true, false, cond}
 use mathlib.Core.List.{List, [], _∷_, _++_, append-assoc, append-nil}
 use borrow.Author.Tests.{ltb-false}
 use lib.Dec.{eqb, ltb}
-use lib.IntN.{pos, negsuc}
 use lib.ListN.{length, getD, take, drop, length-drop}
 use lib.Seq.{take-all}
 use Rattle.meaning.specs.Ids.{covered}
 use Rattle.meaning.specs.Valid.{ValidWay}
-use Rattle.meaning.specs.Places.{null, bool, integer, string}
-use Rattle.meaning.specs.Ways.{Assigned, plain, emptyMap, emptyList}
 use Rattle.meaning.specs.Ways.{Prev, head, after, Way, assign, delete, insert, intoMap, intoList, steps, makes}
 use Rattle.meaning.specs.Sheet.{Spot, inMap, inList, Row}
 use Rattle.rows.specs.Blocks.{passed, rest, deeper}
@@ -22,9 +19,7 @@ use Rattle.rows.specs.Spans.{Shallow}
 use Rattle.rows.specs.Locate.{Located, nowhere, here, underOf, ledRows}
 use Rattle.rows.specs.Counting.{noChange, newBlock, runChange}
 use Rattle.rows.specs.Within.{underChange, GoesOn, change-within, led-within}
-use Rattle.message.specs.Means.{wayWords, prevWords, deedOf}
-use Rattle.message.specs.declared.Deed.{Deed}
-use Rattle.readers.specs.Given.{givenOf}
+use Rattle.message.specs.Means.{wayWords, prevWords}
 use Rattle.tables.specs.Words.{spotWords}
 use Rattle.tables.specs.Finds.{GoodSpot}
 use Rattle.tables.specs.Standing.{behind}
@@ -35,7 +30,6 @@ use Rattle.weigh.specs.declared.Sight.{Sight}
 use Rattle.weigh.specs.declared.Weight.{Weight}
 use Rattle.weigh.specs.Goes.{RowPast}
 use Rattle.weigh.specs.Weighs.{Sees, missing, standing, Looks, orNew, wayNumber, Weighs, nothingWeighed, marked, carried, WayWeighed}
-use Rattle.weigh.specs.Weighs.{plainGiven, deedNumber, isPlain, Weighed}
 use Rattle.weigh.proofs.Looks.{passOf, meantOf, spot-agrees, spot-tells, passed-rest}
 use Rattle.weigh.proofs.Weights.{carried-places, carried-marks, marked-marks, marked-places, mark-is}
 use Rattle.weigh.proofs.Ways.{into, locateAt, false-true, sees-there, carry-into}
@@ -226,32 +220,3 @@ module _ (h k m v : List ℕ) (rows : ℕ) (from : Stop) (n : ℕ) (hangs : Bool
       (sym (e ∙ (ap (λ u. carried u (s .there) (eqb (getD way 2 0) 17) covers true) a
       ∙ ap (λ t. carried (marked x deed) (s .there) (eqb (getD way 2 0) 17) t true) b)))
       (step-weighed long more look past z)
-
--- The deed by its number.
-
-given-plain : (a : Assigned) → plainGiven (givenOf a) ≡ isPlain a
-unfolding plainGiven givenOf
-given-plain (plain null) = refl
-given-plain (plain (bool true)) = refl
-given-plain (plain (bool false)) = refl
-given-plain (plain (integer (pos n))) = refl
-given-plain (plain (integer (negsuc n))) = refl
-given-plain (plain (string b)) = refl
-given-plain emptyMap = refl
-given-plain emptyList = refl
-
-deed-number : (w : Way) → deedNumber (deedOf w) ≡ wayNumber w
-unfolding deedNumber deedOf wayNumber
-deed-number (assign a) = ap (λ b. cond b 1 2) (given-plain a)
-deed-number delete = refl
-deed-number (insert p a) = ap (λ b. cond b 3 4) (given-plain a)
-deed-number (intoMap k w) = deed-number w
-deed-number (intoList e w) = deed-number w
-
-pub deed-weighed : (h k m v : List ℕ) (rows : ℕ) (from : Stop) (n : ℕ) (hangs : Bool) (d : List ℕ) (deed : Deed) (i : ℕ) (way : List ℕ)
-    (x : Weight) → i ≡ deedNumber deed → WayWeighed h k m v rows from n hangs d i way x → Weighed h k m v rows from n hangs d deed way x
-deed-weighed h k m v rows from n hangs d deed i way x z W = record {
-  few-places = W .few-places;
-  few-marks = W .few-marks;
-  is = λ c A B w H q f e g ok N. W .is c A B w H q f e (z ∙ (ap deedNumber g ∙ deed-number w)) ok N;
-}

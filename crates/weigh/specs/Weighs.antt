@@ -151,7 +151,8 @@ pub record PlaceWeighed (h m v : List ℕ) (rows : ℕ) (s : Sight) (d : List �
   pub few-places : x .places ≤ 0
   pub few-marks : x .marks ≤ 1
   pub is : (k : List ℕ) (c : Counts) (rs : List Row) (n : ℕ) (p : Spot) (l : Located) (w : Way) → Holds (four h k m v) c rs
-      → rows ≡ c .rows → Sees rs n s l → wayWords w ≡ [] → deed ≡ wayNumber w → Weighs true (runChange d n w (orNew n p l)) x
+      → rows ≡ c .rows → Sees rs n s l → wayWords w ≡ [] → deed ≡ wayNumber w
+      → Weighs true (runChange d n w (orNew n p l)) x
 
 -- a way from a place on; n is the depth of the rows that hang there, if any do
 pub record WayWeighed (h k m v : List ℕ) (rows : ℕ) (from : Stop) (n : ℕ) (hangs : Bool) (d : List ℕ) (deed : ℕ) (way : List ℕ)

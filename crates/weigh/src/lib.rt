@@ -367,9 +367,24 @@ fn element(led: bool, deed: u64) -> Weight
 }
 
 // The last key of an insert: what it comes after.
-fn weigh_insert(heads: &[u64], keys: &[u64], marks: &[u64], values: &[u64], rows: usize, from: Stop, n: u64, hangs: bool, d: Counters, deed: u64, hi: u64, lo: u64, len: u64) -> Weight
+fn weigh_insert(
+    heads: &[u64],
+    keys: &[u64],
+    marks: &[u64],
+    values: &[u64],
+    rows: usize,
+    from: Stop,
+    n: u64,
+    hangs: bool,
+    d: Counters,
+    deed: u64,
+    hi: u64,
+    lo: u64,
+    len: u64,
+) -> Weight
     requires { ⌜ 3 ≤ deed ⌝ }
-    ensures { λ x. ⌜ WayWeighed (now (heads .entry)) (now (keys .entry)) (now (marks .entry)) (now (values .entry)) rows from n hangs (d .at) deed (hi ∷ lo ∷ len ∷ []) x ⌝ }
+    ensures { λ x. ⌜ WayWeighed (now (heads .entry)) (now (keys .entry)) (now (marks .entry)) (now (values .entry))
+        rows from n hangs (d .at) deed (hi ∷ lo ∷ len ∷ []) x ⌝ }
 {
     if len == 18 {
         return element(true, deed);
@@ -382,17 +397,47 @@ fn weigh_insert(heads: &[u64], keys: &[u64], marks: &[u64], values: &[u64], rows
 }
 
 // The last key of an assign or a delete: its place.
-fn weigh_target(heads: &[u64], keys: &[u64], marks: &[u64], values: &[u64], rows: usize, from: Stop, n: u64, hangs: bool, d: Counters, deed: u64, hi: u64, lo: u64, len: u64) -> Weight
+fn weigh_target(
+    heads: &[u64],
+    keys: &[u64],
+    marks: &[u64],
+    values: &[u64],
+    rows: usize,
+    from: Stop,
+    n: u64,
+    hangs: bool,
+    d: Counters,
+    deed: u64,
+    hi: u64,
+    lo: u64,
+    len: u64,
+) -> Weight
     requires { ⌜ deed < 3 ⌝ }
-    ensures { λ x. ⌜ WayWeighed (now (heads .entry)) (now (keys .entry)) (now (marks .entry)) (now (values .entry)) rows from n hangs (d .at) deed (hi ∷ lo ∷ len ∷ []) x ⌝ }
+    ensures { λ x. ⌜ WayWeighed (now (heads .entry)) (now (keys .entry)) (now (marks .entry)) (now (values .entry))
+        rows from n hangs (d .at) deed (hi ∷ lo ∷ len ∷ []) x ⌝ }
 {
     let s = look(heads, keys, rows, from, n, hangs, hi, lo, len);
     let u = weigh_place(heads, marks, values, rows, s, d, deed);
     carry(u, s.there, len == 17, covered(d, hi), deed != 0)
 }
 
-fn weigh_last(heads: &[u64], keys: &[u64], marks: &[u64], values: &[u64], rows: usize, from: Stop, n: u64, hangs: bool, d: Counters, deed: u64, hi: u64, lo: u64, len: u64) -> Weight
-    ensures { λ x. ⌜ WayWeighed (now (heads .entry)) (now (keys .entry)) (now (marks .entry)) (now (values .entry)) rows from n hangs (d .at) deed (hi ∷ lo ∷ len ∷ []) x ⌝ }
+fn weigh_last(
+    heads: &[u64],
+    keys: &[u64],
+    marks: &[u64],
+    values: &[u64],
+    rows: usize,
+    from: Stop,
+    n: u64,
+    hangs: bool,
+    d: Counters,
+    deed: u64,
+    hi: u64,
+    lo: u64,
+    len: u64,
+) -> Weight
+    ensures { λ x. ⌜ WayWeighed (now (heads .entry)) (now (keys .entry)) (now (marks .entry)) (now (values .entry))
+        rows from n hangs (d .at) deed (hi ∷ lo ∷ len ∷ []) x ⌝ }
 {
     if deed >= 3 {
         return weigh_insert(heads, keys, marks, values, rows, from, n, hangs, d, deed, hi, lo, len);
@@ -401,8 +446,21 @@ fn weigh_last(heads: &[u64], keys: &[u64], marks: &[u64], values: &[u64], rows: 
 }
 
 // What a way comes to from a place on: `from` is behind the place's own row, and n the depth of its children.
-fn weigh_way(heads: &[u64], keys: &[u64], marks: &[u64], values: &[u64], rows: usize, from: Stop, n: u64, hangs: bool, d: Counters, deed: u64, way: &[u64]) -> Weight
-    ensures { λ x. ⌜ WayWeighed (now (heads .entry)) (now (keys .entry)) (now (marks .entry)) (now (values .entry)) rows from n hangs (d .at) deed (now (way .entry)) x ⌝ }
+fn weigh_way(
+    heads: &[u64],
+    keys: &[u64],
+    marks: &[u64],
+    values: &[u64],
+    rows: usize,
+    from: Stop,
+    n: u64,
+    hangs: bool,
+    d: Counters,
+    deed: u64,
+    way: &[u64],
+) -> Weight
+    ensures { λ x. ⌜ WayWeighed (now (heads .entry)) (now (keys .entry)) (now (marks .entry)) (now (values .entry))
+        rows from n hangs (d .at) deed (now (way .entry)) x ⌝ }
 {
     if way.len() < 3 {
         return weightless(true);
@@ -424,8 +482,21 @@ fn weigh_way(heads: &[u64], keys: &[u64], marks: &[u64], values: &[u64], rows: u
 }
 
 // The same, of a deed.
-pub fn weigh(heads: &[u64], keys: &[u64], marks: &[u64], values: &[u64], rows: usize, from: Stop, n: u64, hangs: bool, d: Counters, deed: Deed, way: &[u64]) -> Weight
-    ensures { λ x. ⌜ Weighed (now (heads .entry)) (now (keys .entry)) (now (marks .entry)) (now (values .entry)) rows from n hangs (d .at) deed (now (way .entry)) x ⌝ }
+pub fn weigh(
+    heads: &[u64],
+    keys: &[u64],
+    marks: &[u64],
+    values: &[u64],
+    rows: usize,
+    from: Stop,
+    n: u64,
+    hangs: bool,
+    d: Counters,
+    deed: Deed,
+    way: &[u64],
+) -> Weight
+    ensures { λ x. ⌜ Weighed (now (heads .entry)) (now (keys .entry)) (now (marks .entry)) (now (values .entry))
+        rows from n hangs (d .at) deed (now (way .entry)) x ⌝ }
 {
     weigh_way(heads, keys, marks, values, rows, from, n, hangs, d, deed_number(deed), way)
 }

@@ -31,433 +31,9 @@ abbrev weigh-way-below : ℕ → In 5 weigh-way-kinds.ps
 weigh-way-below t =
     and 5 weigh-way-kinds.ps (falls 5 weigh-way-kinds.ps _<_ μ-weigh-way t) weigh-way.Pre
 
--- src/lib.rt:408:9
-weigh-way-weightless-requires : (t : ℕ) → weigh-way-lts.Need-weightless-requires (
-  weightless-reads.Asked,
-  weightless-reads.Learnt,
-  weigh-last-reads.Asked,
-  weigh-last-reads.Learnt,
-  look-reads.Asked,
-  look-reads.Learnt,
-  past-row-reads.Asked,
-  past-row-reads.Learnt,
-  weigh-way-below t,
-  weigh-way.Post,
-  mark-reads.Asked,
-  mark-reads.Learnt,
-  covered-reads.Asked,
-  covered-reads.Learnt,
-  carry-reads.Asked,
-  carry-reads.Learnt,
-) (weigh-way-at t) weigh-way.Post
-weigh-way-weightless-requires t c κs = search needs
-
--- src/lib.rt:408:9
-weigh-way-returns : (t : ℕ) → weigh-way-lts.Need-returns (
-  weightless-reads.Asked,
-  weightless-reads.Learnt,
-  weigh-last-reads.Asked,
-  weigh-last-reads.Learnt,
-  look-reads.Asked,
-  look-reads.Learnt,
-  past-row-reads.Asked,
-  past-row-reads.Learnt,
-  weigh-way-below t,
-  weigh-way.Post,
-  mark-reads.Asked,
-  mark-reads.Learnt,
-  covered-reads.Asked,
-  covered-reads.Learnt,
-  carry-reads.Asked,
-  carry-reads.Learnt,
-) (weigh-way-at t) weigh-way.Post
-weigh-way-returns t c = rw (c .weightless .ensures) (short-weighed _ _ _ _ _ _ _ _ _ _ _ (c .before .if1 .taken))
-
--- src/lib.rt:411:9
-weigh-way-weightless-requires-2 : (t : ℕ) → weigh-way-lts.Need-weightless-requires-2 (
-  weightless-reads.Asked,
-  weightless-reads.Learnt,
-  weigh-last-reads.Asked,
-  weigh-last-reads.Learnt,
-  look-reads.Asked,
-  look-reads.Learnt,
-  past-row-reads.Asked,
-  past-row-reads.Learnt,
-  weigh-way-below t,
-  weigh-way.Post,
-  mark-reads.Asked,
-  mark-reads.Learnt,
-  covered-reads.Asked,
-  covered-reads.Learnt,
-  carry-reads.Asked,
-  carry-reads.Learnt,
-) (weigh-way-at t) weigh-way.Post
-weigh-way-weightless-requires-2 t c κs = search needs
-
--- src/lib.rt:411:9
-weigh-way-returns-2 : (t : ℕ) → weigh-way-lts.Need-returns-2 (
-  weightless-reads.Asked,
-  weightless-reads.Learnt,
-  weigh-last-reads.Asked,
-  weigh-last-reads.Learnt,
-  look-reads.Asked,
-  look-reads.Learnt,
-  past-row-reads.Asked,
-  past-row-reads.Learnt,
-  weigh-way-below t,
-  weigh-way.Post,
-  mark-reads.Asked,
-  mark-reads.Learnt,
-  covered-reads.Asked,
-  covered-reads.Learnt,
-  carry-reads.Asked,
-  carry-reads.Learnt,
-) (weigh-way-at t) weigh-way.Post
-weigh-way-returns-2 t c = rw (c .weightless2 .ensures) (deep-weighed _ _ _ _ _ _ _ _ _ _ _ (c .before .if2 .taken))
-
--- src/lib.rt:413:14
-weigh-way-shared-slice-read-hi : (t : ℕ) → weigh-way-lts.Need-shared-slice-read-hi (
-  weightless-reads.Asked,
-  weightless-reads.Learnt,
-  weigh-last-reads.Asked,
-  weigh-last-reads.Learnt,
-  look-reads.Asked,
-  look-reads.Learnt,
-  past-row-reads.Asked,
-  past-row-reads.Learnt,
-  weigh-way-below t,
-  weigh-way.Post,
-  mark-reads.Asked,
-  mark-reads.Learnt,
-  covered-reads.Asked,
-  covered-reads.Learnt,
-  carry-reads.Asked,
-  carry-reads.Learnt,
-) (weigh-way-at t) weigh-way.Post
-weigh-way-shared-slice-read-hi t c = search needs
-
--- src/lib.rt:414:14
-weigh-way-shared-slice-read-lo : (t : ℕ) → weigh-way-lts.Need-shared-slice-read-lo (
-  weightless-reads.Asked,
-  weightless-reads.Learnt,
-  weigh-last-reads.Asked,
-  weigh-last-reads.Learnt,
-  look-reads.Asked,
-  look-reads.Learnt,
-  past-row-reads.Asked,
-  past-row-reads.Learnt,
-  weigh-way-below t,
-  weigh-way.Post,
-  mark-reads.Asked,
-  mark-reads.Learnt,
-  covered-reads.Asked,
-  covered-reads.Learnt,
-  carry-reads.Asked,
-  carry-reads.Learnt,
-) (weigh-way-at t) weigh-way.Post
-weigh-way-shared-slice-read-lo t c = search needs
-
--- src/lib.rt:415:15
-weigh-way-shared-slice-read-len : (t : ℕ) → weigh-way-lts.Need-shared-slice-read-len (
-  weightless-reads.Asked,
-  weightless-reads.Learnt,
-  weigh-last-reads.Asked,
-  weigh-last-reads.Learnt,
-  look-reads.Asked,
-  look-reads.Learnt,
-  past-row-reads.Asked,
-  past-row-reads.Learnt,
-  weigh-way-below t,
-  weigh-way.Post,
-  mark-reads.Asked,
-  mark-reads.Learnt,
-  covered-reads.Asked,
-  covered-reads.Learnt,
-  carry-reads.Asked,
-  carry-reads.Learnt,
-) (weigh-way-at t) weigh-way.Post
-weigh-way-shared-slice-read-len t c = search needs
-
--- src/lib.rt:417:9
-weigh-way-weigh-last-requires : (t : ℕ) → weigh-way-lts.Need-weigh-last-requires (
-  weightless-reads.Asked,
-  weightless-reads.Learnt,
-  weigh-last-reads.Asked,
-  weigh-last-reads.Learnt,
-  look-reads.Asked,
-  look-reads.Learnt,
-  past-row-reads.Asked,
-  past-row-reads.Learnt,
-  weigh-way-below t,
-  weigh-way.Post,
-  mark-reads.Asked,
-  mark-reads.Learnt,
-  covered-reads.Asked,
-  covered-reads.Learnt,
-  carry-reads.Asked,
-  carry-reads.Learnt,
-) (weigh-way-at t) weigh-way.Post
-weigh-way-weigh-last-requires t c κs = search needs
-
--- src/lib.rt:417:9
-weigh-way-returns-3 : (t : ℕ) → weigh-way-lts.Need-returns-3 (
-  weightless-reads.Asked,
-  weightless-reads.Learnt,
-  weigh-last-reads.Asked,
-  weigh-last-reads.Learnt,
-  look-reads.Asked,
-  look-reads.Learnt,
-  past-row-reads.Asked,
-  past-row-reads.Learnt,
-  weigh-way-below t,
-  weigh-way.Post,
-  mark-reads.Asked,
-  mark-reads.Learnt,
-  covered-reads.Asked,
-  covered-reads.Learnt,
-  carry-reads.Asked,
-  carry-reads.Learnt,
-) (weigh-way-at t) weigh-way.Post
-weigh-way-returns-3 t c = last-weighed _ _ _ _ _ _ _ _ _ _ _ (c .before .if3 .taken) _ (c .weigh-last .ensures)
-
--- src/lib.rt:419:9
-weigh-way-look-requires : (t : ℕ) → weigh-way-lts.Need-look-requires (
-  weightless-reads.Asked,
-  weightless-reads.Learnt,
-  weigh-last-reads.Asked,
-  weigh-last-reads.Learnt,
-  look-reads.Asked,
-  look-reads.Learnt,
-  past-row-reads.Asked,
-  past-row-reads.Learnt,
-  weigh-way-below t,
-  weigh-way.Post,
-  mark-reads.Asked,
-  mark-reads.Learnt,
-  covered-reads.Asked,
-  covered-reads.Learnt,
-  carry-reads.Asked,
-  carry-reads.Learnt,
-) (weigh-way-at t) weigh-way.Post
-weigh-way-look-requires t c κs = search needs
-
--- src/lib.rt:420:9
-weigh-way-past-row-requires : (t : ℕ) → weigh-way-lts.Need-past-row-requires (
-  weightless-reads.Asked,
-  weightless-reads.Learnt,
-  weigh-last-reads.Asked,
-  weigh-last-reads.Learnt,
-  look-reads.Asked,
-  look-reads.Learnt,
-  past-row-reads.Asked,
-  past-row-reads.Learnt,
-  weigh-way-below t,
-  weigh-way.Post,
-  mark-reads.Asked,
-  mark-reads.Learnt,
-  covered-reads.Asked,
-  covered-reads.Learnt,
-  carry-reads.Asked,
-  carry-reads.Learnt,
-) (weigh-way-at t) weigh-way.Post
-weigh-way-past-row-requires t c κs = search needs
-
--- src/lib.rt:421:67
-weigh-way-add-weigh-way : (t : ℕ) → weigh-way-lts.Need-add-weigh-way (
-  weightless-reads.Asked,
-  weightless-reads.Learnt,
-  weigh-last-reads.Asked,
-  weigh-last-reads.Learnt,
-  look-reads.Asked,
-  look-reads.Learnt,
-  past-row-reads.Asked,
-  past-row-reads.Learnt,
-  weigh-way-below t,
-  weigh-way.Post,
-  mark-reads.Asked,
-  mark-reads.Learnt,
-  covered-reads.Asked,
-  covered-reads.Learnt,
-  carry-reads.Asked,
-  carry-reads.Learnt,
-) (weigh-way-at t) weigh-way.Post
-weigh-way-add-weigh-way t c = search needs
-
--- src/lib.rt:421:92
-weigh-way-sub-weigh-way : (t : ℕ) → weigh-way-lts.Need-sub-weigh-way (
-  weightless-reads.Asked,
-  weightless-reads.Learnt,
-  weigh-last-reads.Asked,
-  weigh-last-reads.Learnt,
-  look-reads.Asked,
-  look-reads.Learnt,
-  past-row-reads.Asked,
-  past-row-reads.Learnt,
-  weigh-way-below t,
-  weigh-way.Post,
-  mark-reads.Asked,
-  mark-reads.Learnt,
-  covered-reads.Asked,
-  covered-reads.Learnt,
-  carry-reads.Asked,
-  carry-reads.Learnt,
-) (weigh-way-at t) weigh-way.Post
-weigh-way-sub-weigh-way t c = search needs
-
--- src/lib.rt:421:92
-weigh-way-part-weigh-way-start : (t : ℕ) → weigh-way-lts.Need-part-weigh-way-start (
-  weightless-reads.Asked,
-  weightless-reads.Learnt,
-  weigh-last-reads.Asked,
-  weigh-last-reads.Learnt,
-  look-reads.Asked,
-  look-reads.Learnt,
-  past-row-reads.Asked,
-  past-row-reads.Learnt,
-  weigh-way-below t,
-  weigh-way.Post,
-  mark-reads.Asked,
-  mark-reads.Learnt,
-  covered-reads.Asked,
-  covered-reads.Learnt,
-  carry-reads.Asked,
-  carry-reads.Learnt,
-) (weigh-way-at t) weigh-way.Post
-weigh-way-part-weigh-way-start t c = search needs
-
--- src/lib.rt:421:92
-weigh-way-part-weigh-way-end : (t : ℕ) → weigh-way-lts.Need-part-weigh-way-end (
-  weightless-reads.Asked,
-  weightless-reads.Learnt,
-  weigh-last-reads.Asked,
-  weigh-last-reads.Learnt,
-  look-reads.Asked,
-  look-reads.Learnt,
-  past-row-reads.Asked,
-  past-row-reads.Learnt,
-  weigh-way-below t,
-  weigh-way.Post,
-  mark-reads.Asked,
-  mark-reads.Learnt,
-  covered-reads.Asked,
-  covered-reads.Learnt,
-  carry-reads.Asked,
-  carry-reads.Learnt,
-) (weigh-way-at t) weigh-way.Post
-weigh-way-part-weigh-way-end t c = search needs
-
--- src/lib.rt:421:9
-weigh-way-weigh-way-requires : (t : ℕ) → weigh-way-lts.Need-weigh-way-requires (
-  weightless-reads.Asked,
-  weightless-reads.Learnt,
-  weigh-last-reads.Asked,
-  weigh-last-reads.Learnt,
-  look-reads.Asked,
-  look-reads.Learnt,
-  past-row-reads.Asked,
-  past-row-reads.Learnt,
-  weigh-way-below t,
-  weigh-way.Post,
-  mark-reads.Asked,
-  mark-reads.Learnt,
-  covered-reads.Asked,
-  covered-reads.Learnt,
-  carry-reads.Asked,
-  carry-reads.Learnt,
-) (weigh-way-at t) weigh-way.Post
-weigh-way-weigh-way-requires t c κs = search needs
-
--- src/lib.rt:422:9
-weigh-way-mark-requires : (t : ℕ) → weigh-way-lts.Need-mark-requires (
-  weightless-reads.Asked,
-  weightless-reads.Learnt,
-  weigh-last-reads.Asked,
-  weigh-last-reads.Learnt,
-  look-reads.Asked,
-  look-reads.Learnt,
-  past-row-reads.Asked,
-  past-row-reads.Learnt,
-  weigh-way-below t,
-  weigh-way.Post,
-  mark-reads.Asked,
-  mark-reads.Learnt,
-  covered-reads.Asked,
-  covered-reads.Learnt,
-  carry-reads.Asked,
-  carry-reads.Learnt,
-) (weigh-way-at t) weigh-way.Post
-weigh-way-mark-requires t c κs = omega (arith, c .weigh-way .ensures .few-marks, c .before .weigh-way-arg .given .2, c .before .before .before .before .before .before .before .before .before .before .before .before .before .before .before .good .1 .1 .1 .1 .1 .1 .1 .1 .1 .1 .0 .1)
-
--- src/lib.rt:423:34
-weigh-way-covered-requires : (t : ℕ) → weigh-way-lts.Need-covered-requires (
-  weightless-reads.Asked,
-  weightless-reads.Learnt,
-  weigh-last-reads.Asked,
-  weigh-last-reads.Learnt,
-  look-reads.Asked,
-  look-reads.Learnt,
-  past-row-reads.Asked,
-  past-row-reads.Learnt,
-  weigh-way-below t,
-  weigh-way.Post,
-  mark-reads.Asked,
-  mark-reads.Learnt,
-  covered-reads.Asked,
-  covered-reads.Learnt,
-  carry-reads.Asked,
-  carry-reads.Learnt,
-) (weigh-way-at t) weigh-way.Post
-weigh-way-covered-requires t c κs = search needs
-
--- src/lib.rt:423:5
-weigh-way-carry-requires : (t : ℕ) → weigh-way-lts.Need-carry-requires (
-  weightless-reads.Asked,
-  weightless-reads.Learnt,
-  weigh-last-reads.Asked,
-  weigh-last-reads.Learnt,
-  look-reads.Asked,
-  look-reads.Learnt,
-  past-row-reads.Asked,
-  past-row-reads.Learnt,
-  weigh-way-below t,
-  weigh-way.Post,
-  mark-reads.Asked,
-  mark-reads.Learnt,
-  covered-reads.Asked,
-  covered-reads.Learnt,
-  carry-reads.Asked,
-  carry-reads.Learnt,
-) (weigh-way-at t) weigh-way.Post
-weigh-way-carry-requires t c κs =
-    let e : c .before .mark .result .places ≡ c .before .before .weigh-way .result .places =
-    ap (λ u. u .places) (c .before .mark .ensures) ∙ marked-places _ _ in
-    omega (arith, e, c .before .before .weigh-way .ensures .few-places, c .before .before .before .weigh-way-arg .given .2, c .before .before .before .before .before .before .before .before .before .before .before .before .before .before .before .before .before .good .1 .1 .1 .1 .1 .1 .1 .1 .1 .1 .0 .1)
-
--- src/lib.rt:404:1
-weigh-way-returns-4 : (t : ℕ) → weigh-way-lts.Need-returns-4 (
-  weightless-reads.Asked,
-  weightless-reads.Learnt,
-  weigh-last-reads.Asked,
-  weigh-last-reads.Learnt,
-  look-reads.Asked,
-  look-reads.Learnt,
-  past-row-reads.Asked,
-  past-row-reads.Learnt,
-  weigh-way-below t,
-  weigh-way.Post,
-  mark-reads.Asked,
-  mark-reads.Learnt,
-  covered-reads.Asked,
-  covered-reads.Learnt,
-  carry-reads.Asked,
-  carry-reads.Learnt,
-) (weigh-way-at t) weigh-way.Post
-weigh-way-returns-4 t c =
-    part-weighed _ _ _ _ _ _ _ _ _ _ _ _ _ _ _ _ _ (c .before .before .before .before .before .before .before .before .before .before .before .before .if1 .left) (c .before .before .before .before .before .before .before .if3 .left) (c .before .before .before .before .before .before .look .ensures) (c .before .before .before .before .before .past-row .ensures)
-    (c .before .before .before .weigh-way .ensures) (c .before .before .mark .ensures) (c .before .covered .ensures) (c .carry .ensures)
-
-pub +weigh-way-spec : {M : Type 1} → statement M
-+weigh-way-spec = close μ-weigh-way λ t. weigh-way-lts.spec (
+-- what the callees ask and ensure
+abbrev claims : ℕ → weigh-way-lts.Claims
+claims t = (
   weightless-reads.Asked,
   weightless-reads.Learnt,
   weigh-last-reads.Asked,
@@ -475,6 +51,74 @@ pub +weigh-way-spec : {M : Type 1} → statement M
   carry-reads.Asked,
   carry-reads.Learnt,
 )
+
+weigh-way-weightless-requires : (t : ℕ) → weigh-way-lts.Need-weightless-requires (claims t) (weigh-way-at t) weigh-way.Post
+weigh-way-weightless-requires t c κs = search needs
+
+weigh-way-returns : (t : ℕ) → weigh-way-lts.Need-returns (claims t) (weigh-way-at t) weigh-way.Post
+weigh-way-returns t c = rw (c .weightless .ensures) (short-weighed _ _ _ _ _ _ _ _ _ _ _ (c .before .if1 .taken))
+
+weigh-way-weightless-requires-2 : (t : ℕ) → weigh-way-lts.Need-weightless-requires-2 (claims t) (weigh-way-at t) weigh-way.Post
+weigh-way-weightless-requires-2 t c κs = search needs
+
+weigh-way-returns-2 : (t : ℕ) → weigh-way-lts.Need-returns-2 (claims t) (weigh-way-at t) weigh-way.Post
+weigh-way-returns-2 t c = rw (c .weightless2 .ensures) (deep-weighed _ _ _ _ _ _ _ _ _ _ _ (c .before .if2 .taken))
+
+weigh-way-shared-slice-read-hi : (t : ℕ) → weigh-way-lts.Need-shared-slice-read-hi (claims t) (weigh-way-at t) weigh-way.Post
+weigh-way-shared-slice-read-hi t c = search needs
+
+weigh-way-shared-slice-read-lo : (t : ℕ) → weigh-way-lts.Need-shared-slice-read-lo (claims t) (weigh-way-at t) weigh-way.Post
+weigh-way-shared-slice-read-lo t c = search needs
+
+weigh-way-shared-slice-read-len : (t : ℕ) → weigh-way-lts.Need-shared-slice-read-len (claims t) (weigh-way-at t) weigh-way.Post
+weigh-way-shared-slice-read-len t c = search needs
+
+weigh-way-weigh-last-requires : (t : ℕ) → weigh-way-lts.Need-weigh-last-requires (claims t) (weigh-way-at t) weigh-way.Post
+weigh-way-weigh-last-requires t c κs = search needs
+
+weigh-way-returns-3 : (t : ℕ) → weigh-way-lts.Need-returns-3 (claims t) (weigh-way-at t) weigh-way.Post
+weigh-way-returns-3 t c = last-weighed _ _ _ _ _ _ _ _ _ _ _ (c .before .if3 .taken) _ (c .weigh-last .ensures)
+
+weigh-way-look-requires : (t : ℕ) → weigh-way-lts.Need-look-requires (claims t) (weigh-way-at t) weigh-way.Post
+weigh-way-look-requires t c κs = search needs
+
+weigh-way-past-row-requires : (t : ℕ) → weigh-way-lts.Need-past-row-requires (claims t) (weigh-way-at t) weigh-way.Post
+weigh-way-past-row-requires t c κs = search needs
+
+weigh-way-add-weigh-way : (t : ℕ) → weigh-way-lts.Need-add-weigh-way (claims t) (weigh-way-at t) weigh-way.Post
+weigh-way-add-weigh-way t c = search needs
+
+weigh-way-sub-weigh-way : (t : ℕ) → weigh-way-lts.Need-sub-weigh-way (claims t) (weigh-way-at t) weigh-way.Post
+weigh-way-sub-weigh-way t c = search needs
+
+weigh-way-part-weigh-way-start : (t : ℕ) → weigh-way-lts.Need-part-weigh-way-start (claims t) (weigh-way-at t) weigh-way.Post
+weigh-way-part-weigh-way-start t c = search needs
+
+weigh-way-part-weigh-way-end : (t : ℕ) → weigh-way-lts.Need-part-weigh-way-end (claims t) (weigh-way-at t) weigh-way.Post
+weigh-way-part-weigh-way-end t c = search needs
+
+weigh-way-weigh-way-requires : (t : ℕ) → weigh-way-lts.Need-weigh-way-requires (claims t) (weigh-way-at t) weigh-way.Post
+weigh-way-weigh-way-requires t c κs = search needs
+
+weigh-way-mark-requires : (t : ℕ) → weigh-way-lts.Need-mark-requires (claims t) (weigh-way-at t) weigh-way.Post
+weigh-way-mark-requires t c κs = omega (arith, c .weigh-way .ensures .few-marks, c .before .weigh-way-arg .given .2, c .before .before .before .before .before .before .before .before .before .before .before .before .before .before .before .good .1 .1 .1 .1 .1 .1 .1 .1 .1 .1 .0 .1)
+
+weigh-way-covered-requires : (t : ℕ) → weigh-way-lts.Need-covered-requires (claims t) (weigh-way-at t) weigh-way.Post
+weigh-way-covered-requires t c κs = search needs
+
+weigh-way-carry-requires : (t : ℕ) → weigh-way-lts.Need-carry-requires (claims t) (weigh-way-at t) weigh-way.Post
+weigh-way-carry-requires t c κs =
+    let e : c .before .mark .result .places ≡ c .before .before .weigh-way .result .places =
+    ap (λ u. u .places) (c .before .mark .ensures) ∙ marked-places _ _ in
+    omega (arith, e, c .before .before .weigh-way .ensures .few-places, c .before .before .before .weigh-way-arg .given .2, c .before .before .before .before .before .before .before .before .before .before .before .before .before .before .before .before .before .good .1 .1 .1 .1 .1 .1 .1 .1 .1 .1 .0 .1)
+
+weigh-way-returns-4 : (t : ℕ) → weigh-way-lts.Need-returns-4 (claims t) (weigh-way-at t) weigh-way.Post
+weigh-way-returns-4 t c =
+    part-weighed _ _ _ _ _ _ _ _ _ _ _ _ _ _ _ _ _ (c .before .before .before .before .before .before .before .before .before .before .before .before .if1 .left) (c .before .before .before .before .before .before .before .if3 .left) (c .before .before .before .before .before .before .look .ensures) (c .before .before .before .before .before .past-row .ensures)
+    (c .before .before .before .weigh-way .ensures) (c .before .before .mark .ensures) (c .before .covered .ensures) (c .carry .ensures)
+
+pub +weigh-way-spec : {M : Type 1} → statement M
++weigh-way-spec = close μ-weigh-way λ t. weigh-way-lts.spec (claims t)
     (weigh-way-at t)
     weigh-way.Post
     (weigh-way-weightless-requires t)

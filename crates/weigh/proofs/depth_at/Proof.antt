@@ -1,7 +1,7 @@
 -- `weigh::depth_at` meets its contract. Assumes nothing.
 use native.Mathlib.Omega.{arith}
 use borrow.Author.Needs.{needs}
-use Rattle.weigh.proofs.Goes.{deep-none, deep-is}
+use Rattle.weigh.proofs.Blocks.{deep-none, deep-is}
 use Rattle.weigh.proofs.depth_at.Statement.{statement}
 use Rattle.weigh.proofs.depth_at.Tie as tie
 use Rattle.weigh.proofs.depth_at.Reads as reads

@@ -1,7 +1,7 @@
 -- `weigh::gone` meets its contract: the row, and what hangs under it. Assumes nothing.
 use native.Mathlib.Omega.{arith}
 use borrow.Author.Needs.{needs}
-use Rattle.weigh.proofs.Goes.{block-gone}
+use Rattle.weigh.proofs.Blocks.{block-gone}
 use Rattle.weigh.proofs.gone.Statement.{statement}
 use Rattle.weigh.proofs.gone.Tie as tie
 use Rattle.weigh.proofs.gone.Reads as reads

@@ -1,7 +1,7 @@
 -- `weigh::past_row` meets its contract: a row that tables hold is there. Assumes nothing.
 use native.Mathlib.Omega.{arith}
 use borrow.Author.Needs.{needs}
-use Rattle.weigh.proofs.Goes.{past-none, past-is}
+use Rattle.weigh.proofs.Blocks.{past-none, past-is}
 use Rattle.weigh.proofs.past_row.Statement.{statement}
 use Rattle.weigh.proofs.past_row.Tie as tie
 use Rattle.weigh.proofs.past_row.Reads as reads

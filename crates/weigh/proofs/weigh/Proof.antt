@@ -1,6 +1,6 @@
 -- `weigh::weigh` meets its contract. Assumes nothing.
 use borrow.Author.Needs.{needs}
-use Rattle.weigh.proofs.Steps.{deed-weighed}
+use Rattle.weigh.proofs.Deeds.{deed-weighed}
 use Rattle.weigh.proofs.weigh.Statement.{statement}
 use Rattle.weigh.proofs.weigh.Tie as tie
 use Rattle.weigh.proofs.weigh.Reads as reads
