@@ -1,10 +1,9 @@
 -- What goes, row by row: of the row at a place, and of the rows behind it that are deeper, one more a turn.
 -- Assumes nothing.
-use Prim.Native.Nat.{ℕ, _+_, _*_, _-_, _≤_, _<_}
+use Prim.Native.Nat.{ℕ, _+_, _*_, _≤_, _<_}
 use native.Mathlib.Omega.{arith}
 use mathlib.Core.Path.{_≡_, refl, sym, ap, _∙_, subst}
-use mathlib.Core.Bool.{Bool, true, false}
-use mathlib.Core.List.{List, [], _∷_, _++_, append-assoc, append-nil}
+use mathlib.Core.List.{List, [], _∷_, _++_, append-assoc}
 use borrow.Author.Tests.{lt-ltb, le-ltb}
 use lib.ListN.{length, drop, getD, length-append}
 use Rattle.meaning.specs.Ids.{uncovered}
@@ -12,13 +11,12 @@ use Rattle.meaning.specs.Sets.{keep}
 use Rattle.meaning.specs.Clear.{clearMarks, clearValues}
 use Rattle.meaning.specs.Members.{idOfValue}
 use Rattle.meaning.specs.Sheet.{Row}
-use Rattle.theorems.specs.Members.{keep-length}
 use Rattle.rows.specs.Blocks.{passed, deeper}
 use Rattle.rows.specs.Counting.{goneMarks, goneValues}
 use Rattle.words.specs.Words.{run}
 use Rattle.words.specs.Rows.{keepRows, flat}
 use Rattle.words.proofs.Flat.{flat-keep, flat-length}
-use Rattle.tables.specs.Words.{valueWords, eachValue, depthIn, marksAt, valuesAt}
+use Rattle.tables.specs.Words.{valueWords, depthIn, marksAt, valuesAt}
 use Rattle.tables.specs.Seek.{further}
 use Rattle.tables.specs.Standing.{behind}
 use Rattle.tables.specs.Holding.{Holds, four}

@@ -17,7 +17,7 @@ use Rattle.tables.specs.Words.{headWord, valueWords, eachValue, headsOf, marksO
 use Rattle.tables.specs.Seek.{further}
 use Rattle.tables.specs.Finds.{Narrow, AllNarrow, past, after, depth-in, marks-in, values-in}
 use Rattle.tables.specs.Standing.{first, behind, after-more, heads-length}
-use Rattle.tables.specs.Holding.{headsRoom, marksRoom, valuesRoom, Holds}
+use Rattle.tables.specs.Holding.{valuesRoom, Holds}
 use Rattle.tables.specs.Parts as P
 use Rattle.tables.specs.declared.Counts.{Counts}
 use Rattle.tables.specs.declared.Stop.{Stop}

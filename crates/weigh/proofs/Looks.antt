@@ -1,6 +1,6 @@
 -- Looking for a place under a key, in tables that hold rows; and what goes there.
 -- Assumes nothing.
-use Prim.Native.Nat.{ℕ, suc, _+_, _≤_, _<_}
+use Prim.Native.Nat.{ℕ}
 use native.Mathlib.Omega.{arith}
 use mathlib.Core.Path.{_≡_, refl, sym, ap, _∙_, subst}
 use mathlib.Core.Bool.{Bool, true, false, cond, not, _&&_}
@@ -8,11 +8,10 @@ use mathlib.Core.List.{List, [], _∷_, _++_, append-assoc}
 use borrow.Author.Tests.{ne-eqb, eqb-true}
 use lib.Dec.{eqb}
 use lib.ListN.{length}
-use Rattle.meaning.specs.Ids.{covered}
 use Rattle.meaning.specs.Valid.{ValidKey}
 use Rattle.meaning.specs.Sheet.{Spot, inMap, inList, Row}
-use Rattle.rows.specs.Blocks.{Block, join, passed, rest, deeper, over, at, keyBelow, isKey, isId}
-use Rattle.rows.specs.Locate.{Located, nowhere, here, locateHere, locate}
+use Rattle.rows.specs.Blocks.{join, passed, rest, deeper, over, at, keyBelow, isKey, isId}
+use Rattle.rows.specs.Locate.{nowhere, here, locateHere, locate}
 use Rattle.rows.specs.Counting.{goneMarks, goneValues, newBlock}
 use Rattle.tables.specs.Finds.{GoodSpot, Agrees, Tells, wantKey, wantElement, key-agrees, element-agrees, key-tells, element-tells}
 use Rattle.tables.specs.Words.{spotWords}
@@ -20,13 +19,15 @@ use Rattle.tables.specs.Standing.{behind}
 use Rattle.tables.specs.Holding.{Holds, four, begins}
 use Rattle.tables.specs.Parts.{at-behind}
 use Rattle.tables.specs.Stands.{FindsIn, Knows}
-use Rattle.tables.specs.declared.Counts.{Counts}
 use Rattle.tables.specs.declared.Stop.{Stop}
 use Rattle.tables.specs.declared.Want.{Want}
 use Rattle.weigh.specs.declared.Lost.{Lost}
 use Rattle.weigh.specs.declared.Sight.{Sight}
 use Rattle.weigh.specs.Goes.{Goes, RowGone, BlockGone}
-use Rattle.weigh.specs.Weighs.{wantOf, Sees, missing, standing, Looks, orNew, GoesAt, SightGone}
+use Rattle.weigh.specs.Weighs.{wantOf, Sees, missing, standing, Looks, SightGone}
+
+pub false-true : (b : Bool) → b ≡ false → b ≡ true → ⊥
+false-true b f t = let z : _≡_ {A = ℕ} 0 1 = ap (λ b. cond b 1 0) (sym f ∙ t) in omega arith
 
 pub passed-rest : (p : Row → Bool) (rs : List Row) → rs ≡ passed p rs ++ rest p rs
 unfolding passed rest
@@ -128,22 +129,19 @@ new-none d n p = record { marks = refl; values = refl }
 
 pub sight-none : (h m v : List ℕ) (rows : ℕ) (s : Sight) (alone : Bool) (d : List ℕ) → s .there ≡ false
     → SightGone h m v rows s alone d (record { marks = 0; values = 0 })
-sight-none h m v rows s alone d f k c rs n p l H q (standing F r R y e g z x) = absurd (false-true (sym f ∙ y))
-  where
-    false-true : false ≡ true → ⊥
-    false-true e = let z : _≡_ {A = ℕ} 0 1 = ap (λ b. cond b 1 0) e in omega arith
+sight-none h m v rows s alone d f k c rs n p l H q (standing F r R y e g z x) = absurd (false-true (s .there) f y)
 sight-none h m v rows s true d f k c rs n p l H q (missing y x) =
     rw x (refl, new-none d n p .values)
 sight-none h m v rows s false d f k c rs n p l H q (missing y x) = rw x (new-none d n p)
 
 pub sight-row : (h m v : List ℕ) (rows : ℕ) (s : Sight) (alone : Bool) (d : List ℕ) (g : Lost) → alone ≡ true → s .there ≡ true → RowGone h m v (s .at) d g
     → SightGone h m v rows s alone d (record { marks = 0; values = g .values })
-sight-row h m v rows s alone d g a y W k c rs n p l H q (missing f x) = absurd (let z : _≡_ {A = ℕ} 0 1 = ap (λ b. cond b 1 0) (sym f ∙ y) in omega arith)
+sight-row h m v rows s alone d g a y W k c rs n p l H q (missing f x) = absurd (false-true (s .there) f y)
 sight-row h m v rows s alone d g a y W k c rs n p l H q (standing F r R y′ e b z x) =
     rw (a, x) (refl, W .is k c F r R (subst (Holds (four h k m v) c) e H) b .values)
 
 pub sight-block : (h m v : List ℕ) (rows : ℕ) (s : Sight) (alone : Bool) (d : List ℕ) (g : Lost) → alone ≡ false → s .there ≡ true
     → BlockGone h m v rows (s .at) d g → SightGone h m v rows s alone d g
-sight-block h m v rows s alone d g a y W k c rs n p l H q (missing f x) = absurd (let z : _≡_ {A = ℕ} 0 1 = ap (λ b. cond b 1 0) (sym f ∙ y) in omega arith)
+sight-block h m v rows s alone d g a y W k c rs n p l H q (missing f x) = absurd (false-true (s .there) f y)
 sight-block h m v rows s alone d g a y W k c rs n p l H q (standing F r R y′ e b z x) =
     rw (a, x) (subst (λ n. Goes d (r ∷ passed (deeper n) R) g) z (W .is k c F r R q (subst (Holds (four h k m v) c) e H) b))

@@ -7,7 +7,7 @@ use mathlib.Core.Path.{_≡_, refl, sym, ap, _∙_, subst}
 use mathlib.Core.Bool.{Bool, true, false, cond}
 use mathlib.Core.List.{List, [], _∷_, _++_, append-assoc, append-nil}
 use borrow.Author.Tests.{ltb-false}
-use lib.Dec.{eqb, ltb}
+use lib.Dec.{eqb}
 use lib.ListN.{length, getD, take, drop, length-drop}
 use lib.Seq.{take-all}
 use Rattle.meaning.specs.Ids.{covered}
@@ -17,7 +17,6 @@ use Rattle.meaning.specs.Sheet.{Spot, inMap, inList, Row}
 use Rattle.rows.specs.Blocks.{passed, rest, deeper}
 use Rattle.rows.specs.Spans.{Shallow}
 use Rattle.rows.specs.Locate.{Located, nowhere, here, underOf, ledRows}
-use Rattle.rows.specs.Counting.{noChange, newBlock, runChange}
 use Rattle.rows.specs.Within.{underChange, GoesOn, change-within, led-within}
 use Rattle.message.specs.Means.{wayWords, prevWords}
 use Rattle.tables.specs.Words.{spotWords}
@@ -30,9 +29,9 @@ use Rattle.weigh.specs.declared.Sight.{Sight}
 use Rattle.weigh.specs.declared.Weight.{Weight}
 use Rattle.weigh.specs.Goes.{RowPast}
 use Rattle.weigh.specs.Weighs.{Sees, missing, standing, Looks, orNew, wayNumber, Weighs, nothingWeighed, marked, carried, WayWeighed}
-use Rattle.weigh.proofs.Looks.{passOf, meantOf, spot-agrees, spot-tells, passed-rest}
+use Rattle.weigh.proofs.Looks.{passOf, meantOf, spot-agrees, spot-tells, false-true, passed-rest}
 use Rattle.weigh.proofs.Weights.{carried-places, carried-marks, marked-marks, marked-places, mark-is}
-use Rattle.weigh.proofs.Ways.{into, locateAt, false-true, sees-there, carry-into}
+use Rattle.weigh.proofs.Ways.{into, locateAt, sees-there, carry-into}
 
 -- A way that goes on has a key.
 

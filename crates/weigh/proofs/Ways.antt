@@ -1,24 +1,21 @@
 -- Ways weighed from a place on: their last key, and one key more.
 -- Assumes nothing.
-use Prim.Native.Nat.{ℕ, suc, _+_, _≤_, _<_}
+use Prim.Native.Nat.{ℕ, suc, _≤_, _<_}
 use native.Mathlib.Omega.{arith}
-use native.Mathlib.Numerals.{add-one}
 use mathlib.Core.Path.{_≡_, refl, sym, ap, _∙_, subst}
 use mathlib.Core.Bool.{Bool, true, false, cond, not, _&&_}
-use mathlib.Core.List.{List, [], _∷_, _++_, append-assoc, append-nil}
+use mathlib.Core.List.{List, [], _∷_, _++_}
 use borrow.Author.Tests.{eq-eqb, ne-eqb}
-use lib.Dec.{eqb, ltb}
-use lib.ListN.{length, getD, drop, length-drop}
+use lib.Dec.{eqb}
+use lib.ListN.{length, getD, drop}
 use Rattle.meaning.specs.Ids.{covered}
 use Rattle.meaning.specs.Valid.{ValidWay}
 use Rattle.meaning.specs.Ways.{Assigned, plain, emptyMap, emptyList, Prev, head, after}
-use Rattle.meaning.specs.Ways.{Way, assign, delete, insert, intoMap, intoList, steps, makes}
+use Rattle.meaning.specs.Ways.{Way, assign, delete, insert, intoMap, intoList, makes}
 use Rattle.meaning.specs.Sheet.{Spot, inMap, inList, Row}
-use Rattle.rows.specs.Blocks.{passed, rest, deeper}
-use Rattle.rows.specs.Spans.{Shallow}
-use Rattle.rows.specs.Locate.{Located, nowhere, here, locate, locateKey, locateElement, underOf, isLocated, ledRows}
-use Rattle.rows.specs.Counting.{Change, noChange, newChange, runChange}
-use Rattle.rows.specs.Within.{underChange, GoesOn, change-within, led-within}
+use Rattle.rows.specs.Locate.{Located, locate, locateKey, locateElement, underOf, isLocated, ledRows}
+use Rattle.rows.specs.Counting.{noChange, newChange, runChange}
+use Rattle.rows.specs.Within.{underChange}
 use Rattle.message.specs.Means.{wayWords, prevWords}
 use Rattle.tables.specs.Words.{spotWords}
 use Rattle.tables.specs.Finds.{GoodSpot}
@@ -28,12 +25,10 @@ use Rattle.tables.specs.declared.Counts.{Counts}
 use Rattle.tables.specs.declared.Stop.{Stop}
 use Rattle.weigh.specs.declared.Sight.{Sight}
 use Rattle.weigh.specs.declared.Weight.{Weight}
-use Rattle.weigh.specs.Goes.{RowPast}
-use Rattle.weigh.specs.Weighs.{Sees, missing, standing, Looks, orNew, isPlain, wayNumber, Weighs, nothingWeighed, elementWeighed, marked, carried}
+use Rattle.weigh.specs.Weighs.{Sees, missing, standing, Looks, orNew, isPlain, wayNumber, Weighs, nothingWeighed, elementWeighed, carried}
 use Rattle.weigh.specs.Weighs.{PlaceWeighed, WayWeighed}
-use Rattle.weigh.proofs.Looks.{passOf, meantOf, spot-agrees, spot-tells, passed-rest}
-use Rattle.weigh.proofs.Weights.{Ends, gives, drops, ends, map-carry, list-carry, carried-places, carried-marks}
-use Rattle.weigh.proofs.Weights.{marked-marks, marked-places, mark-is}
+use Rattle.weigh.proofs.Looks.{passOf, meantOf, spot-agrees, spot-tells}
+use Rattle.weigh.proofs.Weights.{Ends, ends, and-false, map-carry, list-carry, carried-places, carried-marks}
 
 -- A key and what follows it.
 
@@ -43,9 +38,6 @@ into (inList e) w = intoList e w
 
 abbrev pub locateAt : ℕ → Spot → List Row → Located
 locateAt n p rs = locate n (passOf p) (meantOf p) rs
-
-pub false-true : (b : Bool) → b ≡ false → b ≡ true → ⊥
-false-true b f t = let z : _≡_ {A = ℕ} 0 1 = ap (λ b. cond b 1 0) (sym f ∙ t) in omega arith
 
 pub sees-there : (rs : List Row) (n : ℕ) (s : Sight) (l : Located) → Sees rs n s l → s .there ≡ isLocated l
 sees-there rs n s l (missing f x) = f ∙ sym (ap isLocated x)
@@ -184,10 +176,6 @@ module _ (h k m v : List ℕ) (rows : ℕ) (from : Stop) (n : ℕ) (hangs : Bool
   and-true : (b : Bool) → b && true ≡ b
   and-true true = refl
   and-true false = refl
-
-  and-false : (b : Bool) → b && false ≡ false
-  and-false true = refl
-  and-false false = refl
 
   pub insert-there : (s : Sight) → 3 ≤ deed → (len ≡ 18 → ⊥) → Looks h k rows from n hangs hi lo len s → s .there ≡ true
       → WayWeighed h k m v rows from n hangs d deed (hi ∷ lo ∷ len ∷ []) (elementWeighed (covered d hi) deed)

@@ -1,20 +1,19 @@
 -- Weights: of an assign or a delete at its place, of a place under a key that is there or not, of the mark on the way.
 -- Assumes nothing.
-use Prim.Native.Nat.{ℕ, suc, _+_, _≤_, _<_}
+use Prim.Native.Nat.{ℕ, suc, _+_, _≤_}
 use native.Mathlib.Omega.{arith}
 use mathlib.Core.Path.{_≡_, refl, sym, ap, _∙_, subst}
-use mathlib.Core.Bool.{Bool, true, false, cond, not, _&&_}
-use mathlib.Core.List.{List, [], _∷_, _++_}
-use borrow.Author.Tests.{eq-eqb, ne-eqb}
+use mathlib.Core.Bool.{Bool, true, false, cond, _&&_}
+use mathlib.Core.List.{List, []}
 use lib.Dec.{eqb}
 use lib.ListN.{length}
 use Rattle.meaning.specs.Ids.{covered}
 use Rattle.meaning.specs.Ways.{Assigned, plain, emptyMap, emptyList, Prev, head, after}
 use Rattle.meaning.specs.Ways.{Way, assign, delete, insert, intoMap, intoList, deletes, makes}
-use Rattle.meaning.specs.Sheet.{Spot, inMap, inList, Row}
+use Rattle.meaning.specs.Sheet.{Spot, Row}
 use Rattle.rows.specs.Blocks.{Block, join}
 use Rattle.rows.specs.Locate.{Located, nowhere, here, underOf, isLocated, ledRows}
-use Rattle.rows.specs.Counting.{Change, noChange, both, adds, goneMarks, goneValues, giveChange, newChange, passingChange, newBlock, foundChange, runChange}
+use Rattle.rows.specs.Counting.{Change, noChange, both, adds, clears, giveChange, passingChange, newBlock, foundChange, runChange}
 use Rattle.rows.specs.Within.{underChange, GoesOn, run-change}
 use Rattle.message.specs.Means.{wayWords, prevWords}
 use Rattle.tables.specs.Holding.{Holds, four}
@@ -23,7 +22,7 @@ use Rattle.weigh.specs.declared.Lost.{Lost}
 use Rattle.weigh.specs.declared.Sight.{Sight}
 use Rattle.weigh.specs.declared.Weight.{Weight}
 use Rattle.weigh.specs.Goes.{Goes}
-use Rattle.weigh.specs.Weighs.{Sees, orNew, GoesAt, SightGone, isPlain, wayNumber, Weighs, nothingWeighed, marked, unled, placed, carried, PlaceWeighed}
+use Rattle.weigh.specs.Weighs.{Sees, orNew, GoesAt, SightGone, wayNumber, Weighs, nothingWeighed, marked, unled, placed, carried, PlaceWeighed}
 
 -- A way that ends here.
 
@@ -57,6 +56,16 @@ module _ (d : List ℕ) (n : ℕ) (b : Block) (g : Lost) where
     «gone_values» = g .values;
   }
 
+  cleared : Goes d (join b) g → Weighs true (both (adds 0 1 0) (clears d (join b))) (placeWeight 2)
+  cleared h = record {
+    led-is = refl;
+    places = refl;
+    marks = refl;
+    values = refl;
+    gone-marks = omega (arith, h .marks);
+    gone-values = omega (arith, h .values);
+  }
+
   place-is : (w : Way) → Ends w → GoesAt (eqb (wayNumber w) 1) d b g → Weighs true (runChange d n w b) (placeWeight (wayNumber w))
   unfolding wayNumber runChange giveChange
   place-is (assign (plain v)) e h =
@@ -68,24 +77,8 @@ module _ (d : List ℕ) (n : ℕ) (b : Block) (g : Lost) where
         gone-marks = omega (arith, h .0);
         gone-values = omega (arith, h .1);
       }
-  place-is (assign emptyMap) e h =
-      record {
-        led-is = refl;
-        places = refl;
-        marks = refl;
-        values = refl;
-        gone-marks = omega (arith, h .marks);
-        gone-values = omega (arith, h .values);
-      }
-  place-is (assign emptyList) e h =
-      record {
-        led-is = refl;
-        places = refl;
-        marks = refl;
-        values = refl;
-        gone-marks = omega (arith, h .marks);
-        gone-values = omega (arith, h .values);
-      }
+  place-is (assign emptyMap) e h = cleared h
+  place-is (assign emptyList) e h = cleared h
   place-is delete e h =
       record { led-is = refl; places = refl; marks = refl; values = refl; gone-marks = h .marks; gone-values = h .values }
 
@@ -117,7 +110,7 @@ place-weighed h m v rows s d deed g x y G a b l = record {
 
 -- A place under a key.
 
-and-false : (b : Bool) → b && false ≡ false
+pub and-false : (b : Bool) → b && false ≡ false
 and-false true = refl
 and-false false = refl
 

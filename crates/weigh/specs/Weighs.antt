@@ -2,18 +2,18 @@
 -- A place under a key is looked for among the rows that stand behind a place, its children of depth n first; rows that are shallower
 -- end them. Each promise says: if the tables hold rows, the answer is that of the rows.
 -- Assumes nothing: these are definitions.
-use Prim.Native.Nat.{ℕ, _+_, _≤_, _<_}
+use Prim.Native.Nat.{ℕ, _+_, _≤_}
 use mathlib.Core.Path.{_≡_}
-use mathlib.Core.Bool.{Bool, true, false, cond, not, _&&_}
+use mathlib.Core.Bool.{Bool, true, false, cond}
 use mathlib.Core.List.{List, [], _∷_, _++_}
 use lib.Dec.{eqb}
 use lib.ListN.{length}
 use Rattle.meaning.specs.Ways.{Assigned, plain, emptyMap, emptyList, Way, assign, delete, insert, intoMap, intoList, steps}
 use Rattle.meaning.specs.Valid.{ValidWay}
-use Rattle.meaning.specs.Sheet.{Spot, inMap, inList, Row}
-use Rattle.rows.specs.Blocks.{Block, join, passed, deeper, keyBelow, isKey, isId}
+use Rattle.meaning.specs.Sheet.{Spot, Row}
+use Rattle.rows.specs.Blocks.{Block, join, passed, deeper}
 use Rattle.rows.specs.Locate.{Located, nowhere, here, locate, ledRows}
-use Rattle.rows.specs.Counting.{Change, goneMarks, goneValues, newBlock, runChange}
+use Rattle.rows.specs.Counting.{Change, goneValues, newBlock, runChange}
 use Rattle.rows.specs.Within.{underChange}
 use Rattle.readers.specs.declared.Given.{Given}
 use Rattle.readers.specs.declared.Given.the-variants as G

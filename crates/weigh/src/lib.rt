@@ -5,10 +5,10 @@ use counters::covered;
 use meaning::Counters;
 use message::Deed;
 use readers::Given;
-use tables::find;
-use tables::known;
 use tables::Stop;
 use tables::Want;
+use tables::find;
+use tables::known;
 use words::covered_marks;
 use words::covered_values;
 ghost use mathlib.Core.Path.{_≡_};
@@ -24,43 +24,71 @@ pub struct Lost {
     pub values: usize,
 }
 
-
 // How many marks and values of a row d covers.
 pub fn gone_row(heads: &[u64], marks: &[u64], values: &[u64], s: Stop, d: Counters) -> Lost
     ensures { λ g. ⌜ RowGone (now (heads .entry)) (now (marks .entry)) (now (values .entry)) s (d .at) g ⌝ }
 {
     let row = s.row;
     if row >= heads.len() {
-        return Lost { marks: 0, values: 0 };
+        return Lost {
+            marks: 0,
+            values: 0,
+        };
     }
     let h = heads[row];
     let m = (h / 128 % 2048) as usize;
     let v = (h / 262144 % 512) as usize;
     let from = s.mark;
     if from > 1032 {
-        return Lost { marks: 0, values: 0 };
+        return Lost {
+            marks: 0,
+            values: 0,
+        };
     }
     let at = s.value;
     if at > 257 {
-        return Lost { marks: 0, values: 0 };
+        return Lost {
+            marks: 0,
+            values: 0,
+        };
     }
     if from + m > marks.len() {
-        return Lost { marks: 0, values: 0 };
+        return Lost {
+            marks: 0,
+            values: 0,
+        };
     }
     if at * 6 + v * 6 > values.len() {
-        return Lost { marks: 0, values: 0 };
+        return Lost {
+            marks: 0,
+            values: 0,
+        };
     }
     let a = covered_marks(marks, from, m, d);
     let b = covered_values(values, at * 6, v, d);
-    Lost { marks: a, values: b }
+    Lost {
+        marks: a,
+        values: b,
+    }
 }
 
 // The same of the rows deeper than n, from a place on up to the first that isn't.
-pub fn gone_under(heads: &[u64], marks: &[u64], values: &[u64], rows: usize, from: Stop, n: u64, d: Counters) -> Lost
+pub fn gone_under(
+    heads: &[u64],
+    marks: &[u64],
+    values: &[u64],
+    rows: usize,
+    from: Stop,
+    n: u64,
+    d: Counters,
+) -> Lost
     ensures { λ g. ⌜ UnderGone (now (heads .entry)) (now (marks .entry)) (now (values .entry)) rows from n (d .at) g ⌝ }
 {
     let mut at = from;
-    let mut sum = Lost { marks: 0, values: 0 };
+    let mut sum = Lost {
+        marks: 0,
+        values: 0,
+    };
     if rows > 264 {
         return sum;
     }
@@ -83,7 +111,10 @@ pub fn gone_under(heads: &[u64], marks: &[u64], values: &[u64], rows: usize, fro
             return sum;
         }
         let g = gone_row(heads, marks, values, at, d);
-        sum = Lost { marks: sum.marks + g.marks, values: sum.values + g.values };
+        sum = Lost {
+            marks: sum.marks + g.marks,
+            values: sum.values + g.values,
+        };
         at = Stop {
             row: row + 1,
             mark: at.mark + (h / 128 % 2048) as usize,
@@ -133,7 +164,10 @@ pub fn gone(heads: &[u64], marks: &[u64], values: &[u64], rows: usize, s: Stop, 
     let next = past_row(heads, s);
     let n = depth_at(heads, s.row);
     let under = gone_under(heads, marks, values, rows, next, n, d);
-    Lost { marks: own.marks + under.marks, values: own.values + under.values }
+    Lost {
+        marks: own.marks + under.marks,
+        values: own.values + under.values,
+    }
 }
 
 // A place that was looked for: where it stands, and whether it does.
@@ -175,29 +209,59 @@ fn want_of(n: u64, hi: u64, lo: u64, len: u64) -> Want
 }
 
 // Looks for the place under a key among the rows from a place on, of depth n; nothing is there if nothing hangs there.
-pub fn look(heads: &[u64], keys: &[u64], rows: usize, from: Stop, n: u64, hangs: bool, hi: u64, lo: u64, len: u64) -> Sight
+pub fn look(
+    heads: &[u64],
+    keys: &[u64],
+    rows: usize,
+    from: Stop,
+    n: u64,
+    hangs: bool,
+    hi: u64,
+    lo: u64,
+    len: u64,
+) -> Sight
     ensures { λ s. ⌜ Looks (now (heads .entry)) (now (keys .entry)) rows from n hangs hi lo len s ⌝ }
 {
     if !hangs {
-        return Sight { at: from, there: false };
+        return Sight {
+            at: from,
+            there: false,
+        };
     }
     let w = want_of(n, hi, lo, len);
     let at = find(heads, keys, rows, from, w);
     let there = known(heads, keys, rows, at.row, w);
-    Sight { at: at, there: there }
+    Sight {
+        at: at,
+        there: there,
+    }
 }
 
 // What goes at a place that is assigned or deleted: of its own values, if the value is a plain one, else of its block.
-fn lost_at(heads: &[u64], marks: &[u64], values: &[u64], rows: usize, s: Sight, plain: bool, d: Counters) -> Lost
+fn lost_at(
+    heads: &[u64],
+    marks: &[u64],
+    values: &[u64],
+    rows: usize,
+    s: Sight,
+    plain: bool,
+    d: Counters,
+) -> Lost
     ensures { λ g. ⌜ SightGone (now (heads .entry)) (now (marks .entry)) (now (values .entry)) rows s plain (d .at) g ⌝ }
 {
     if !s.there {
-        return Lost { marks: 0, values: 0 };
+        return Lost {
+            marks: 0,
+            values: 0,
+        };
     }
     let at = s.at;
     if plain {
         let g = gone_row(heads, marks, values, at, d);
-        return Lost { marks: 0, values: g.values };
+        return Lost {
+            marks: 0,
+            values: g.values,
+        };
     }
     gone(heads, marks, values, rows, at, d)
 }
@@ -222,26 +286,22 @@ fn deed_number(deed: Deed) -> u64
     ensures { λ r. ⌜ r ≡ deedNumber deed ⌝ }
 {
     match deed {
-        Deed::Assign(g) => {
-            if plain(g) {
-                1
-            } else {
-                2
-            }
-        }
-        Deed::Insert(g) => {
-            if plain(g) {
-                3
-            } else {
-                4
-            }
-        }
+        Deed::Assign(g) => { if plain(g) { 1 } else { 2 } }
+        Deed::Insert(g) => { if plain(g) { 3 } else { 4 } }
         Deed::Delete => 0,
     }
 }
 
 // What an assign or a delete comes to at its place.
-fn weigh_place(heads: &[u64], marks: &[u64], values: &[u64], rows: usize, s: Sight, d: Counters, deed: u64) -> Weight
+fn weigh_place(
+    heads: &[u64],
+    marks: &[u64],
+    values: &[u64],
+    rows: usize,
+    s: Sight,
+    d: Counters,
+    deed: u64,
+) -> Weight
     ensures { λ x. ⌜ PlaceWeighed (now (heads .entry)) (now (marks .entry)) (now (values .entry)) rows s (d .at) deed x ⌝ }
 {
     let g = lost_at(heads, marks, values, rows, s, deed == 1, d);
@@ -440,9 +500,37 @@ fn weigh_last(
         rows from n hangs (d .at) deed (hi ∷ lo ∷ len ∷ []) x ⌝ }
 {
     if deed >= 3 {
-        return weigh_insert(heads, keys, marks, values, rows, from, n, hangs, d, deed, hi, lo, len);
+        return weigh_insert(
+            heads,
+            keys,
+            marks,
+            values,
+            rows,
+            from,
+            n,
+            hangs,
+            d,
+            deed,
+            hi,
+            lo,
+            len,
+        );
     }
-    weigh_target(heads, keys, marks, values, rows, from, n, hangs, d, deed, hi, lo, len)
+    weigh_target(
+        heads,
+        keys,
+        marks,
+        values,
+        rows,
+        from,
+        n,
+        hangs,
+        d,
+        deed,
+        hi,
+        lo,
+        len,
+    )
 }
 
 // What a way comes to from a place on: `from` is behind the place's own row, and n the depth of its children.
@@ -472,11 +560,37 @@ fn weigh_way(
     let lo = way[1];
     let len = way[2];
     if way.len() == 3 {
-        return weigh_last(heads, keys, marks, values, rows, from, n, hangs, d, deed, hi, lo, len);
+        return weigh_last(
+            heads,
+            keys,
+            marks,
+            values,
+            rows,
+            from,
+            n,
+            hangs,
+            d,
+            deed,
+            hi,
+            lo,
+            len,
+        );
     }
     let s = look(heads, keys, rows, from, n, hangs, hi, lo, len);
     let next = past_row(heads, s.at);
-    let under = weigh_way(heads, keys, marks, values, rows, next, n + 1, s.there, d, deed, &way[3..]);
+    let under = weigh_way(
+        heads,
+        keys,
+        marks,
+        values,
+        rows,
+        next,
+        n + 1,
+        s.there,
+        d,
+        deed,
+        &way[3..],
+    );
     let u = mark(under, deed);
     carry(u, s.there, len == 17, covered(d, hi), true)
 }
@@ -498,5 +612,17 @@ pub fn weigh(
     ensures { λ x. ⌜ Weighed (now (heads .entry)) (now (keys .entry)) (now (marks .entry)) (now (values .entry))
         rows from n hangs (d .at) deed (now (way .entry)) x ⌝ }
 {
-    weigh_way(heads, keys, marks, values, rows, from, n, hangs, d, deed_number(deed), way)
+    weigh_way(
+        heads,
+        keys,
+        marks,
+        values,
+        rows,
+        from,
+        n,
+        hangs,
+        d,
+        deed_number(deed),
+        way,
+    )
 }

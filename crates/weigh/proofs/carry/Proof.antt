@@ -1,52 +1,40 @@
 -- `weigh::carry` meets its contract, by its cases. Assumes nothing.
 use borrow.Author.Needs.{needs}
-use borrow.Author.Tests.{eq-eqb, ne-eqb, not-true, not-false}
+use borrow.Author.Tests.{not-true, not-false}
 use mathlib.Core.Path.{_∙_}
 use Rattle.weigh.specs.Weighs.{carried}
 use Rattle.weigh.proofs.carry.Statement.{statement}
 use Rattle.weigh.proofs.carry.Tie as tie
-use Rattle.weigh.proofs.carry.Reads as reads
-use Rattle.weigh.proofs.carry.Lts as lts
-use Rattle.weigh.proofs.weightless.Reads as weightless-reads
 
--- src/lib.rt:299:17
 returns : tie.Need-returns
 unfolding carried
 returns c = rw (c .before .before .if1 .taken, c .before .if2 .taken, not-true (c .before .before .before .args .covers) (c .if3 .taken))
 
--- src/lib.rt:309:9
 returns-2 : tie.Need-returns-2
 unfolding carried
 returns-2 c = rw (c .before .before .if1 .taken, c .before .if2 .taken, not-false (c .before .before .before .args .covers) (c .if3 .left))
 
--- src/lib.rt:309:9
 returns-3 : tie.Need-returns-3
 unfolding carried
 returns-3 c = rw (c .before .if1 .taken, c .if2 .left)
 
--- src/lib.rt:312:9
 weightless-requires : tie.Need-weightless-requires
 weightless-requires c κs = search needs
 
--- src/lib.rt:312:9
 returns-4 : tie.Need-returns-4
 unfolding carried
 returns-4 c = c .weightless .ensures ∙ rw (c .before .before .if1 .left, c .before .if4 .taken)
 
--- src/lib.rt:317:21
 add-t9 : tie.Need-add-t9
 add-t9 c = search needs
 
--- src/lib.rt:315:9
 returns-5 : tie.Need-returns-5
 unfolding carried
 returns-5 c = rw (c .before .before .before .if1 .left, c .before .before .if4 .left, c .before .if5 .taken)
 
--- src/lib.rt:324:5
 weightless-requires-2 : tie.Need-weightless-requires-2
 weightless-requires-2 c κs = search needs
 
--- src/lib.rt:292:1
 returns-6 : tie.Need-returns-6
 unfolding carried
 returns-6 c = c .weightless2 .ensures ∙ rw (c .before .before .before .if1 .left, c .before .before .if4 .left, c .before .if5 .left)

@@ -5,51 +5,38 @@ use mathlib.Core.Bool.{cond}
 use Rattle.weigh.specs.Weighs.{deedNumber}
 use Rattle.weigh.proofs.deed_number.Statement.{statement}
 use Rattle.weigh.proofs.deed_number.Tie as tie
-use Rattle.weigh.proofs.deed_number.Reads as reads
-use Rattle.weigh.proofs.deed_number.Lts as lts
-use Rattle.weigh.proofs.plain.Reads as plain-reads
 
--- src/lib.rt:220:22
 enum-known-deed : tie.Need-enum-known-deed
 enum-known-deed c = search needs
 
--- src/lib.rt:221:16
 plain-requires : tie.Need-plain-requires
 plain-requires c κs = search needs
 
--- src/lib.rt:227:22
 enum-known-deed-2 : tie.Need-enum-known-deed-2
 enum-known-deed-2 c = search needs
 
--- src/lib.rt:228:16
 plain-requires-2 : tie.Need-plain-requires-2
 plain-requires-2 c κs = search needs
 
--- src/lib.rt:234:25
 enum-told : tie.Need-enum-told
 enum-told c = search needs
 
--- src/lib.rt:216:1
 returns : tie.Need-returns
 unfolding deedNumber
 returns c = sym (ap deedNumber (c .before .before .before .deed .given .1) ∙ ap (λ b. cond b 1 2) (sym (c .before .plain .ensures) ∙ c .if1 .taken))
 
--- src/lib.rt:216:1
 returns-2 : tie.Need-returns-2
 unfolding deedNumber
 returns-2 c = sym (ap deedNumber (c .before .before .before .deed .given .1) ∙ ap (λ b. cond b 1 2) (sym (c .before .plain .ensures) ∙ c .if1 .left))
 
--- src/lib.rt:216:1
 returns-3 : tie.Need-returns-3
 unfolding deedNumber
 returns-3 c = sym (ap deedNumber (c .before .before .before .deed2 .given .1) ∙ ap (λ b. cond b 3 4) (sym (c .before .plain2 .ensures) ∙ c .if2 .taken))
 
--- src/lib.rt:216:1
 returns-4 : tie.Need-returns-4
 unfolding deedNumber
 returns-4 c = sym (ap deedNumber (c .before .before .before .deed2 .given .1) ∙ ap (λ b. cond b 3 4) (sym (c .before .plain2 .ensures) ∙ c .if2 .left))
 
--- src/lib.rt:216:1
 returns-5 : tie.Need-returns-5
 unfolding deedNumber
 returns-5 c = sym (ap deedNumber (c .enum-told .given .1))

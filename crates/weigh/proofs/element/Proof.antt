@@ -1,18 +1,13 @@
 -- `weigh::element` meets its contract. Assumes nothing.
-use borrow.Author.Needs.{needs}
-use borrow.Author.Tests.{eq-eqb, ne-eqb, not-true, not-false}
+use borrow.Author.Tests.{eq-eqb, ne-eqb}
 use Rattle.weigh.specs.Weighs.{elementWeighed}
 use Rattle.weigh.proofs.element.Statement.{statement}
 use Rattle.weigh.proofs.element.Tie as tie
-use Rattle.weigh.proofs.element.Reads as reads
-use Rattle.weigh.proofs.element.Lts as lts
 
--- src/lib.rt:345:9
 returns : tie.Need-returns
 unfolding elementWeighed
 returns c = rw (eq-eqb _ _ (c .if1 .taken))
 
--- src/lib.rt:341:1
 returns-2 : tie.Need-returns-2
 unfolding elementWeighed
 returns-2 c = rw (ne-eqb _ _ (c .if1 .left))

@@ -5,9 +5,6 @@ use borrow.Author.Needs.{needs}
 use Rattle.weigh.proofs.Goes.{Going, under-none, going-start, going-end, going-out, going-stop, going-on}
 use Rattle.weigh.proofs.gone_under.Statement.{statement}
 use Rattle.weigh.proofs.gone_under.Tie as tie
-use Rattle.weigh.proofs.gone_under.Reads as reads
-use Rattle.weigh.proofs.gone_under.Lts as lts
-use Rattle.weigh.proofs.gone_row.Reads as gone-row-reads
 
 abbrev Inv-loop : tie.InvT-loop
 Inv-loop heads marks values rows n d at₀ sum₀ at sum = Going heads marks values rows at₀ n (d .at) at sum
@@ -15,75 +12,57 @@ Inv-loop heads marks values rows n d at₀ sum₀ at sum = Going heads marks val
 abbrev μ-loop : tie.MeasureT-loop
 μ-loop heads marks values rows n d at₀ sum₀ at sum = rows - at .row
 
--- src/lib.rt:55:9
 returns : tie.Need-returns Inv-loop μ-loop
 returns c = under-none _ _ _ _ _ _ _ (λ t q h. omega (arith, q, h .few, h .row, h .mark, h .value))
 
--- src/lib.rt:58:9
 returns-2 : tie.Need-returns-2 Inv-loop μ-loop
 returns-2 c = under-none _ _ _ _ _ _ _ (λ t q h. omega (arith, q, h .few, h .row, h .mark, h .value))
 
--- src/lib.rt:61:9
 returns-3 : tie.Need-returns-3 Inv-loop μ-loop
 returns-3 c = under-none _ _ _ _ _ _ _ (λ t q h. omega (arith, q, h .few, h .row, h .mark, h .value))
 
--- src/lib.rt:64:9
 returns-4 : tie.Need-returns-4 Inv-loop μ-loop
 returns-4 c = under-none _ _ _ _ _ _ _ (λ t q h. omega (arith, q, h .few, h .row, h .mark, h .value))
 
--- src/lib.rt:66:5
 loop-holds : tie.Need-loop-holds Inv-loop μ-loop
 loop-holds c = going-start _ _ _ _ _ _ _ (c .before .before .before .before .before .before .if1 .left) (c .before .before .before .before .if2 .left) (c .before .before .if3 .left) (c .if4 .left)
 
--- src/lib.rt:69:13
 returns-5 : tie.Need-returns-5 Inv-loop μ-loop
 returns-5 c = going-out _ _ _ _ _ _ _ _ _ (c .before .before .before .loop .inv) (c .if6 .taken)
 
--- src/lib.rt:71:17
 mul-h : tie.Need-mul-h Inv-loop μ-loop
 mul-h c = search needs
 
--- src/lib.rt:71:17
 shared-slice-read-h : tie.Need-shared-slice-read-h Inv-loop μ-loop
 shared-slice-read-h c = search needs
 
--- src/lib.rt:73:13
 returns-6 : tie.Need-returns-6 Inv-loop μ-loop
 returns-6 c = going-stop _ _ _ _ _ _ _ _ _ (c .before .before .before .before .before .loop .inv) (c .if7 .taken)
 
--- src/lib.rt:75:13
 gone-row-requires : tie.Need-gone-row-requires Inv-loop μ-loop
 gone-row-requires c κs = search needs
 
--- src/lib.rt:76:29
 add-t15 : tie.Need-add-t15 Inv-loop μ-loop
 add-t15 c = search needs
 
--- src/lib.rt:76:58
 add-t18 : tie.Need-add-t18 Inv-loop μ-loop
 add-t18 c = search needs
 
--- src/lib.rt:78:18
 add-t15-2 : tie.Need-add-t15-2 Inv-loop μ-loop
 add-t15-2 c = search needs
 
--- src/lib.rt:79:19
 add-t20 : tie.Need-add-t20 Inv-loop μ-loop
 add-t20 c = search needs
 
--- src/lib.rt:80:20
 add-t24 : tie.Need-add-t24 Inv-loop μ-loop
 add-t24 c = search needs
 
--- src/lib.rt:66:5
 loop-less : tie.Need-loop-less Inv-loop μ-loop
 loop-less c = search needs
 
--- src/lib.rt:66:5
 loop-again : tie.Need-loop-again Inv-loop μ-loop
 loop-again c = going-on _ _ _ _ _ _ _ _ _ (c .before .before .before .before .before .before .before .before .before .before .before .before .loop .inv) (c .before .before .before .before .before .before .before .before .before .before .if5 .taken) (c .before .before .before .before .before .before .before .if7 .left) _ (c .before .before .before .before .before .before .gone-row .ensures)
 
--- src/lib.rt:49:1
 returns-7 : tie.Need-returns-7 Inv-loop μ-loop
 returns-7 c = going-end _ _ _ _ _ _ _ _ _ (c .before .before .loop .inv) (c .if5 .left)
 

@@ -4,42 +4,31 @@ use borrow.Author.Needs.{needs}
 use Rattle.weigh.proofs.Blocks.{past-none, past-is}
 use Rattle.weigh.proofs.past_row.Statement.{statement}
 use Rattle.weigh.proofs.past_row.Tie as tie
-use Rattle.weigh.proofs.past_row.Reads as reads
-use Rattle.weigh.proofs.past_row.Lts as lts
 
--- src/lib.rt:92:9
 returns : tie.Need-returns
 returns c = past-none _ _ _ (λ keys marks values t r h. omega (arith, h .row))
 
--- src/lib.rt:95:9
 returns-2 : tie.Need-returns-2
 returns-2 c = past-none _ _ _ (λ keys marks values t r h. omega (arith, h .mark))
 
--- src/lib.rt:98:9
 returns-3 : tie.Need-returns-3
 returns-3 c = past-none _ _ _ (λ keys marks values t r h. omega (arith, h .value))
 
--- src/lib.rt:100:13
 mul-h : tie.Need-mul-h
 mul-h c = search needs
 
--- src/lib.rt:100:13
 shared-slice-read-h : tie.Need-shared-slice-read-h
 shared-slice-read-h c = search needs
 
--- src/lib.rt:102:14
 add-t5 : tie.Need-add-t5
 add-t5 c = search needs
 
--- src/lib.rt:103:15
 add-t11 : tie.Need-add-t11
 add-t11 c = search needs
 
--- src/lib.rt:104:16
 add-t15 : tie.Need-add-t15
 add-t15 c = search needs
 
--- src/lib.rt:87:1
 returns-4 : tie.Need-returns-4
 returns-4 c = past-is _ _
 

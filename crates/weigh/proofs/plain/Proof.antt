@@ -4,77 +4,59 @@ use mathlib.Core.Path.{sym, ap}
 use Rattle.weigh.specs.Weighs.{plainGiven}
 use Rattle.weigh.proofs.plain.Statement.{statement}
 use Rattle.weigh.proofs.plain.Tie as tie
-use Rattle.weigh.proofs.plain.Reads as reads
-use Rattle.weigh.proofs.plain.Lts as lts
 
--- src/lib.rt:209:24
 enum-told : tie.Need-enum-told
 enum-told c = search needs
 
--- src/lib.rt:210:24
 enum-told-2 : tie.Need-enum-told-2
 enum-told-2 c = search needs
 
--- src/lib.rt:211:25
 enum-told-3 : tie.Need-enum-told-3
 enum-told-3 c = search needs
 
--- src/lib.rt:212:29
 enum-told-4 : tie.Need-enum-told-4
 enum-told-4 c = search needs
 
--- src/lib.rt:213:26
 enum-told-5 : tie.Need-enum-told-5
 enum-told-5 c = search needs
 
--- src/lib.rt:214:29
 enum-told-6 : tie.Need-enum-told-6
 enum-told-6 c = search needs
 
--- src/lib.rt:215:23
 enum-told-7 : tie.Need-enum-told-7
 enum-told-7 c = search needs
 
--- src/lib.rt:216:24
 enum-told-8 : tie.Need-enum-told-8
 enum-told-8 c = search needs
 
--- src/lib.rt:205:1
 returns : tie.Need-returns
 unfolding plainGiven
 returns c = sym (ap plainGiven (c .enum-told .given .1))
 
--- src/lib.rt:205:1
 returns-2 : tie.Need-returns-2
 unfolding plainGiven
 returns-2 c = sym (ap plainGiven (c .enum-told2 .given .1))
 
--- src/lib.rt:205:1
 returns-3 : tie.Need-returns-3
 unfolding plainGiven
 returns-3 c = sym (ap plainGiven (c .enum-told3 .given .1))
 
--- src/lib.rt:205:1
 returns-4 : tie.Need-returns-4
 unfolding plainGiven
 returns-4 c = sym (ap plainGiven (c .enum-told4 .given .1))
 
--- src/lib.rt:205:1
 returns-5 : tie.Need-returns-5
 unfolding plainGiven
 returns-5 c = sym (ap plainGiven (c .enum-told5 .given .1))
 
--- src/lib.rt:205:1
 returns-6 : tie.Need-returns-6
 unfolding plainGiven
 returns-6 c = sym (ap plainGiven (c .enum-told6 .given .1))
 
--- src/lib.rt:205:1
 returns-7 : tie.Need-returns-7
 unfolding plainGiven
 returns-7 c = sym (ap plainGiven (c .enum-told7 .given .1))
 
--- src/lib.rt:205:1
 returns-8 : tie.Need-returns-8
 unfolding plainGiven
 returns-8 c = sym (ap plainGiven (c .enum-told8 .given .1))

@@ -1,18 +1,13 @@
 -- `weigh::want_of` meets its contract. Assumes nothing.
-use borrow.Author.Needs.{needs}
-use borrow.Author.Tests.{eq-eqb, ne-eqb, not-true, not-false}
+use borrow.Author.Tests.{eq-eqb, ne-eqb}
 use Rattle.weigh.specs.Weighs.{wantOf}
 use Rattle.weigh.proofs.want_of.Statement.{statement}
 use Rattle.weigh.proofs.want_of.Tie as tie
-use Rattle.weigh.proofs.want_of.Reads as reads
-use Rattle.weigh.proofs.want_of.Lts as lts
 
--- src/lib.rt:160:9
 returns : tie.Need-returns
 unfolding wantOf
 returns c = rw (eq-eqb _ _ (c .if1 .taken))
 
--- src/lib.rt:156:1
 returns-2 : tie.Need-returns-2
 unfolding wantOf
 returns-2 c = rw (ne-eqb _ _ (c .if1 .left))

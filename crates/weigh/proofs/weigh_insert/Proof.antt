@@ -3,42 +3,28 @@ use borrow.Author.Needs.{needs}
 use Rattle.weigh.proofs.Ways.{insert-first, insert-there, insert-missing}
 use Rattle.weigh.proofs.weigh_insert.Statement.{statement}
 use Rattle.weigh.proofs.weigh_insert.Tie as tie
-use Rattle.weigh.proofs.weigh_insert.Reads as reads
-use Rattle.weigh.proofs.weigh_insert.Lts as lts
-use Rattle.counters.proofs.covered.Reads as covered-reads
-use Rattle.weigh.proofs.element.Reads as element-reads
-use Rattle.weigh.proofs.look.Reads as look-reads
-use Rattle.weigh.proofs.weightless.Reads as weightless-reads
 
--- src/lib.rt:375:9
 element-requires : tie.Need-element-requires
 element-requires c κs = search needs
 
--- src/lib.rt:375:9
 returns : tie.Need-returns
 returns c = rw (c .element .ensures) (insert-first _ _ _ _ _ _ _ _ _ _ _ _ _ (c .before .before .before .before .before .before .pre) (c .before .if1 .taken))
 
--- src/lib.rt:377:9
 look-requires : tie.Need-look-requires
 look-requires c κs = search needs
 
--- src/lib.rt:379:24
 covered-requires : tie.Need-covered-requires
 covered-requires c κs = search needs
 
--- src/lib.rt:379:9
 element-requires-2 : tie.Need-element-requires-2
 element-requires-2 c κs = search needs
 
--- src/lib.rt:379:9
 returns-2 : tie.Need-returns-2
 returns-2 c = rw (c .element2 .ensures, c .before .covered .ensures) (insert-there _ _ _ _ _ _ _ _ _ _ _ _ _ _ (c .before .before .before .before .before .before .before .before .before .pre) (c .before .before .before .before .if1 .left) (c .before .before .before .look .ensures) (c .before .before .if2 .taken))
 
--- src/lib.rt:381:5
 weightless-requires : tie.Need-weightless-requires
 weightless-requires c κs = search needs
 
--- src/lib.rt:370:1
 returns-3 : tie.Need-returns-3
 returns-3 c = rw (c .weightless .ensures) (insert-missing _ _ _ _ _ _ _ _ _ _ _ _ _ _ (c .before .before .before .before .before .before .before .before .pre) (c .before .before .before .if1 .left) (c .before .before .look .ensures) (c .before .if2 .left))
 

@@ -7,23 +7,16 @@ use borrow.Author.Tests.{eq-eqb, ne-eqb}
 use Rattle.weigh.proofs.Weights.{place-weighed}
 use Rattle.weigh.proofs.weigh_place.Statement.{statement}
 use Rattle.weigh.proofs.weigh_place.Tie as tie
-use Rattle.weigh.proofs.weigh_place.Reads as reads
-use Rattle.weigh.proofs.weigh_place.Lts as lts
-use Rattle.weigh.proofs.lost_at.Reads as lost-at-reads
 
--- src/lib.rt:242:9
 lost-at-requires : tie.Need-lost-at-requires
 lost-at-requires c κs = search needs
 
--- src/lib.rt:244:9
 returns : tie.Need-returns
 returns c = place-weighed _ _ _ _ _ _ _ _ _ _ (c .before .lost-at .ensures) (sym (ap (λ b. cond b 0 1) (eq-eqb _ _ (c .if1 .taken)))) (sym (ap (λ b. cond b 1 0) (ne-eqb (c .before .before .before .before .before .args .deed) 1 (λ q. omega (arith, q, c .if1 .taken))))) (omega arith)
 
--- src/lib.rt:254:9
 returns-2 : tie.Need-returns-2
 returns-2 c = place-weighed _ _ _ _ _ _ _ _ _ _ (c .before .before .lost-at .ensures) (sym (ap (λ b. cond b 0 1) (ne-eqb _ _ (c .before .if1 .left)))) (sym (ap (λ b. cond b 1 0) (eq-eqb _ _ (c .if2 .taken)))) (omega arith)
 
--- src/lib.rt:239:1
 returns-3 : tie.Need-returns-3
 returns-3 c = place-weighed _ _ _ _ _ _ _ _ _ _ (c .before .before .lost-at .ensures) (sym (ap (λ b. cond b 0 1) (ne-eqb _ _ (c .before .if1 .left)))) (sym (ap (λ b. cond b 1 0) (ne-eqb _ _ (c .if2 .left)))) (omega arith)
 
