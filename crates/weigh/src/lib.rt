@@ -12,8 +12,8 @@ use tables::known;
 use words::covered_marks;
 use words::covered_values;
 ghost use mathlib.Core.Path.{_≡_};
-ghost use Prim.Native.Nat.{_<_, _≤_};
-ghost use mathlib.Core.List.{[], _∷_};
+ghost use Prim.Native.Nat.{ℕ, _<_, _≤_};
+ghost use mathlib.Core.List.{List, [], _∷_};
 ghost use Rattle.weigh.specs.Weighs.{wantOf, Looks, SightGone, PlaceWeighed, WayWeighed, Weighed};
 ghost use Rattle.weigh.specs.Weighs.{plainGiven, deedNumber, marked, carried, nothingWeighed, elementWeighed};
 ghost use Rattle.weigh.specs.Goes.{RowGone, UnderGone, BlockGone, RowPast, RowDeep};
@@ -430,8 +430,6 @@ fn element(led: bool, deed: u64) -> Weight
 fn weigh_insert(
     heads: &[u64],
     keys: &[u64],
-    marks: &[u64],
-    values: &[u64],
     rows: usize,
     from: Stop,
     n: u64,
@@ -443,8 +441,8 @@ fn weigh_insert(
     len: u64,
 ) -> Weight
     requires { ⌜ 3 ≤ deed ⌝ }
-    ensures { λ x. ⌜ WayWeighed (now (heads .entry)) (now (keys .entry)) (now (marks .entry)) (now (values .entry))
-        rows from n hangs (d .at) deed (hi ∷ lo ∷ len ∷ []) x ⌝ }
+    ensures { λ x. ⌜ ((m v : List ℕ) → WayWeighed (now (heads .entry)) (now (keys .entry)) m v
+        rows from n hangs (d .at) deed (hi ∷ lo ∷ len ∷ []) x) ⌝ }
 {
     if len == 18 {
         return element(true, deed);
@@ -500,21 +498,7 @@ fn weigh_last(
         rows from n hangs (d .at) deed (hi ∷ lo ∷ len ∷ []) x ⌝ }
 {
     if deed >= 3 {
-        return weigh_insert(
-            heads,
-            keys,
-            marks,
-            values,
-            rows,
-            from,
-            n,
-            hangs,
-            d,
-            deed,
-            hi,
-            lo,
-            len,
-        );
+        return weigh_insert(heads, keys, rows, from, n, hangs, d, deed, hi, lo, len);
     }
     weigh_target(
         heads,
