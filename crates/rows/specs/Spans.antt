@@ -30,7 +30,7 @@ split-pass : (p : Row → Bool) (r : Row) (rs a b : List Row) → p r ≡ true �
 unfolding passed rest
 split-pass p r rs a b e s = record { front = rw e (ap (r ∷_) (s .front)); back = rw e (s .back) }
 
-split-all : (p : Row → Bool) (xs rs a b : List Row) → All (λ r. p r ≡ true) xs → Splits p rs a b → Splits p (xs ++ rs) (xs ++ a) b
+pub split-all : (p : Row → Bool) (xs rs a b : List Row) → All (λ r. p r ≡ true) xs → Splits p rs a b → Splits p (xs ++ rs) (xs ++ a) b
 split-all p [] rs a b h s = s
 split-all p (x ∷ xs) rs a b h s = split-pass p x (xs ++ rs) (xs ++ a) b (h .0) (split-all p xs rs a b (h .1) s)
 
@@ -40,7 +40,7 @@ deep-passes : (n : ℕ) (test : Spot → Bool) (xs : List Row) → Deep (suc n) 
 deep-passes n test [] d = tt
 deep-passes n test (x ∷ xs) d = (rw (lt-ltb n (x .depth) (d .0)), deep-passes n test xs (d .1))
 
-deep-deeper : (n : ℕ) (xs : List Row) → Deep (suc n) xs → All (λ r. deeper n r ≡ true) xs
+pub deep-deeper : (n : ℕ) (xs : List Row) → Deep (suc n) xs → All (λ r. deeper n r ≡ true) xs
 deep-deeper n [] d = tt
 deep-deeper n (x ∷ xs) d = (lt-ltb n (x .depth) (d .0), deep-deeper n xs (d .1))
 
@@ -68,7 +68,7 @@ abbrev pub Shallow : ℕ → List Row → Type 0
 Shallow n [] = Unit {0}
 Shallow n (r ∷ rs) = r .depth ≤ n
 
-shallow-stop : (n : ℕ) (rs : List Row) → Shallow n rs → Splits (deeper n) rs [] rs
+pub shallow-stop : (n : ℕ) (rs : List Row) → Shallow n rs → Splits (deeper n) rs [] rs
 shallow-stop n [] h = split-none (deeper n)
 shallow-stop n (r ∷ rs) h = split-stop (deeper n) r rs (le-ltb n (r .depth) h)
 

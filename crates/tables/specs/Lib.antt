@@ -5,3 +5,4 @@ pub mod Standing
 pub mod Holding
 pub mod Parts
 pub mod Stands
+pub mod Values

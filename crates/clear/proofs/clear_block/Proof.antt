@@ -1,0 +1,163 @@
+-- `clear::clear_block` meets its contract: no tables that hold rows fail its tests, and what it leaves is said by proofs/Block.
+-- Assumes nothing.
+use native.Mathlib.Omega.{arith}
+use borrow.Author.Needs.{needs}
+use Rattle.clear.specs.Clear.{passing}
+use Rattle.clear.proofs.Block.{not-sitting, far-marks, far-values, block-done}
+use Rattle.clear.proofs.clear_block.Statement.{statement}
+use Rattle.clear.proofs.clear_block.Tie as tie
+
+returns : tie.Need-returns
+returns c =
+    let a = c .before .before .before .before in
+    let t = c .if1 .taken in
+    not-sitting (a .args .d .at) (a .args .heads .now) (a .args .marks .now) (a .args .values .now) (a .args .c) (a .args .s) (λ z. omega arith)
+
+returns-2 : tie.Need-returns-2
+returns-2 c =
+    let a = c .before .before .before .before .before in
+    let t = c .if2 .taken in
+    not-sitting (a .args .d .at) (a .args .heads .now) (a .args .marks .now) (a .args .values .now) (a .args .c) (a .args .s) (λ z. omega arith)
+
+returns-3 : tie.Need-returns-3
+returns-3 c =
+    let a = c .before .before .before .before .before .before in
+    let t = c .if3 .taken in
+    not-sitting (a .args .d .at) (a .args .heads .now) (a .args .marks .now) (a .args .values .now) (a .args .c) (a .args .s) (λ z. omega arith)
+
+returns-4 : tie.Need-returns-4
+returns-4 c =
+    let a = c .before .before .before .before .before .before .before in
+    let t = c .if4 .taken in
+    not-sitting (a .args .d .at) (a .args .heads .now) (a .args .marks .now) (a .args .values .now) (a .args .c) (a .args .s) (λ z. omega arith)
+
+returns-5 : tie.Need-returns-5
+returns-5 c =
+    let a = c .before .before .before .before .before .before .before .before .before in
+    let t = c .if5 .taken in
+    not-sitting (a .args .d .at) (a .args .heads .now) (a .args .marks .now) (a .args .values .now) (a .args .c) (a .args .s) (λ z. omega arith)
+
+returns-6 : tie.Need-returns-6
+returns-6 c =
+    let a = c .before .before .before .before .before .before .before .before .before .before .before .before in
+    let t = c .if6 .taken in
+    not-sitting (a .args .d .at) (a .args .heads .now) (a .args .marks .now) (a .args .values .now) (a .args .c) (a .args .s) (λ z. omega arith)
+
+mul-words : tie.Need-mul-words
+mul-words c = search needs
+
+mul-value : tie.Need-mul-value
+mul-value c = search needs
+
+clear-place-requires : tie.Need-clear-place-requires
+clear-place-requires c κs = search needs
+
+same-length : tie.Need-same-length
+same-length c = search needs
+
+same-length-2 : tie.Need-same-length-2
+same-length-2 c = search needs
+
+same-length-3 : tie.Need-same-length-3
+same-length-3 c = search needs
+
+returns-7 : tie.Need-returns-7
+returns-7 c =
+    let a = c .before .before .before .before .before .before .before .before .before .before .before .before .before .before .before .before .before .before .before .before .before .before .before .before .before .before in
+    let p = c .before .before .before .before .before .before .before .before .clear-place in
+    let y = passing (p .last .0) (p .last .1 .0) (p .last .1 .1 .0) (p .result) in
+    far-marks (a .args .d .at) (a .args .heads .now) (a .args .marks .now) (a .args .values .now) (a .args .c) (a .args .s) y (p .ensures) (c .if7 .taken)
+
+same-length-4 : tie.Need-same-length-4
+same-length-4 c = search needs
+
+same-length-5 : tie.Need-same-length-5
+same-length-5 c = search needs
+
+same-length-6 : tie.Need-same-length-6
+same-length-6 c = search needs
+
+returns-8 : tie.Need-returns-8
+returns-8 c =
+    let a = c .before .before .before .before .before .before .before .before .before .before .before .before .before .before .before .before .before .before .before .before .before .before .before .before .before .before .before .before in
+    let p = c .before .before .before .before .before .before .before .before .before .before .clear-place in
+    let y = passing (p .last .0) (p .last .1 .0) (p .last .1 .1 .0) (p .result) in
+    far-values (a .args .d .at) (a .args .heads .now) (a .args .marks .now) (a .args .values .now) (a .args .c) (a .args .s) y (p .ensures) (c .if8 .taken)
+
+sub-gone : tie.Need-sub-gone
+sub-gone c = search needs
+
+sub-gone-words : tie.Need-sub-gone-words
+sub-gone-words c = search needs
+
+close-requires : tie.Need-close-requires
+close-requires c κs =
+    let p = c .before .before .before .before .before .before .before .before .before .before .before .before .before .clear-place in
+    let w = p .ensures .within in
+    let l = p .kept .1 .0 in
+    let i = c .before .before .before .before .before .if7 .left in
+    let j = c .before .before .before .before .before .before .before .before .before .before .before .before .before .before .before .before .before .before .before .before .before .before .before .before .before .if3 .left in
+    (w .marks-low, i, omega arith)
+
+close-requires-2 : tie.Need-close-requires-2
+close-requires-2 c κs =
+    let p = c .before .before .before .before .before .before .before .before .before .before .before .before .before .before .before .before .before .clear-place in
+    let w = p .ensures .within in
+    let l = p .kept .1 .1 .0 in
+    let i = c .before .before .before .before .before .before .before .if8 .left in
+    let j = c .before .before .before .before .before .before .before .before .before .before .before .before .before .before .before .before .before .before .before .before .before .before .before .before .before .before .if5 .left in
+    (w .values-low, i, omega arith)
+
+sub-left : tie.Need-sub-left
+sub-left c = search needs
+
+sub-words-left : tie.Need-sub-words-left
+sub-words-left c = search needs
+
+same-length-7 : tie.Need-same-length-7
+same-length-7 c = search needs
+
+same-length-8 : tie.Need-same-length-8
+same-length-8 c = search needs
+
+same-length-9 : tie.Need-same-length-9
+same-length-9 c = search needs
+
+returns-9 : tie.Need-returns-9
+returns-9 c =
+    let a = c .before .before .before .before .before .before .before .before .before .before .before .before .before .before .before .before .before .before .before .before .before .before .before .before .before .before .before .before .before .before .before .before .before .before .before .before .before .before in
+    let p = c .before .before .before .before .before .before .before .before .before .before .before .before .before .before .before .before .before .before .before .before .clear-place in
+    let y = passing (p .last .0) (p .last .1 .0) (p .last .1 .1 .0) (p .result) in
+    block-done (a .args .d .at) (a .args .heads .now) (a .args .marks .now) (a .args .values .now) (a .args .c) (a .args .s) y (p .ensures) (c .before .before .before .before .before .before .close .last .0) (c .before .before .close2 .last .0) (c .before .before .before .before .before .before .close .ensures) (c .before .before .close2 .ensures)
+
+pub clear-block-spec : {M : Type 1} → statement M
+clear-block-spec =
+    tie.close
+    (tie.spec
+    returns
+    returns-2
+    returns-3
+    returns-4
+    returns-5
+    returns-6
+    mul-words
+    mul-value
+    clear-place-requires
+    same-length
+    same-length-2
+    same-length-3
+    returns-7
+    same-length-4
+    same-length-5
+    same-length-6
+    returns-8
+    sub-gone
+    sub-gone-words
+    close-requires
+    close-requires-2
+    sub-left
+    sub-words-left
+    same-length-7
+    same-length-8
+    same-length-9
+    returns-9)
