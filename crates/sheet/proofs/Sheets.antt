@@ -118,12 +118,11 @@ module _ (table later : List ℕ) where
       all-lines (valueText table) (λ i. i + 1) (λ v. valueLine v ∷ []) (map valueLine) Valued refl (λ v vs. refl)
       (λ i v vs h.
       let e = h .0 ∙ append-assoc (valueWords v) (eachValue vs) later in
-      let f : 6 * i + 6 ≡ 6 * (i + 1) = omega arith in
-      (
+      let f : 6 * i + 6 ≡ 6 * (i + 1) = omega arith in (
         ap (λ v. lineText (valueLine v)) (value-held i _ e ∙ held-back (v .id) (v .val) (eachValue vs ++ later) (h .1 .0)) ∙ sym (one-line (valueLine v)),
         (
           ap (λ n. drop n table) (sym f) ∙ (sym (drop-drop 6 (6 * i) table)
-          ∙ (ap (drop 6) e ∙ drop-at (valueWords v) (eachValue vs ++ later) 6 (omega (arith, plain-six (v .val))))),
+              ∙ (ap (drop 6) e ∙ drop-at (valueWords v) (eachValue vs ++ later) 6 (omega (arith, plain-six (v .val))))),
           h .1 .1,
         ),
       ))
@@ -172,8 +171,17 @@ module _ (h k m v : List ℕ) (c : Counts) where
     place-is : placeText (headWord r) k (s .row) ≡ lineText (placeLine (r .depth) (r .spot) (r .map) (r .list))
     unfolding placeText A
     place-is =
-        rw (at .row, key-at h k m v c A R r (st .holds), depth-in r narrow, side-in r narrow, map-in r narrow, list-in r narrow,
-        bit-back (r .map), bit-back (r .list), spot-back (r .spot) (narrow .spot))
+        rw (
+          at .row,
+          key-at h k m v c A R r (st .holds),
+          depth-in r narrow,
+          side-in r narrow,
+          map-in r narrow,
+          list-in r narrow,
+          bit-back (r .map),
+          bit-back (r .list),
+          spot-back (r .spot) (narrow .spot),
+        )
 
     marks-are : marksText m (s .mark) (length (r .marks)) ≡ linesText (map markLine (r .marks))
     unfolding A
@@ -187,10 +195,9 @@ module _ (h k m v : List ℕ) (c : Counts) where
     unfolding A Valued
     values-are =
         let z : List ℕ = replicate (valuesRoom - length (valuesOf (A ++ r ∷ R))) 0 in
-        values-lines v (valuesOf R ++ z) (s .value) (r .values)
-        (
+        values-lines v (valuesOf R ++ z) (s .value) (r .values) (
           ap (drop (6 * s .value)) (st .holds .values ∙ values-parts A r R z)
-          ∙ drop-at (valuesOf A) (eachValue (r .values) ++ (valuesOf R ++ z)) (6 * s .value) (omega (arith, values-length A, at .value)),
+              ∙ drop-at (valuesOf A) (eachValue (r .values) ++ (valuesOf R ++ z)) (6 * s .value) (omega (arith, values-length A, at .value)),
           st .valid .0,
         )
 

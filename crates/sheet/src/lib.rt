@@ -120,7 +120,12 @@ fn value_size(values: &[u64], i: usize, t: &[u64; 20]) -> usize
     let a = 6 * i;
     let n = word(values, a + 2);
     let kind = kind_of(word(values, a + 1), n);
-    let words = [n, word(values, a + 3), word(values, a + 4), word(values, a + 5)];
+    let words = [
+        n,
+        word(values, a + 3),
+        word(values, a + 4),
+        word(values, a + 5),
+    ];
     value_line_size(word(values, a), kind, words, t)
 }
 
@@ -131,7 +136,12 @@ fn put_value(buf: &mut [u8], values: &[u64], i: usize, t: &[u64; 20]) -> usize
     let a = 6 * i;
     let n = word(values, a + 2);
     let kind = kind_of(word(values, a + 1), n);
-    let words = [n, word(values, a + 3), word(values, a + 4), word(values, a + 5)];
+    let words = [
+        n,
+        word(values, a + 3),
+        word(values, a + 4),
+        word(values, a + 5),
+    ];
     put_value_line(buf, word(values, a), kind, words, t)
 }
 
@@ -234,7 +244,14 @@ fn put_row(
     let h = word(heads, s.row);
     let a = put_place(buf, h, keys, s.row, t);
     let b = a + put_marks(&mut buf[a..], marks, s.mark, (h / 128 % 2048) as usize, t);
-    b + put_values(&mut buf[b..], values, s.value, (h / 262144 % 512) as usize, t)
+    b
+        + put_values(
+            &mut buf[b..],
+            values,
+            s.value,
+            (h / 262144 % 512) as usize,
+            t,
+        )
 }
 
 // One row further.

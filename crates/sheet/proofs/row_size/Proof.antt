@@ -4,7 +4,7 @@ use native.Mathlib.Omega.{arith}
 use lib.ListN.{length-append}
 use Rattle.writers.proofs.Texts.{sized}
 use Rattle.tables.specs.Holding.{four}
-use Rattle.sheet.proofs.Rows.{row-text}
+use Rattle.sheet.proofs.Rows.{row-here}
 use borrow.Author.Needs.{needs}
 use Rattle.sheet.proofs.row_size.Statement.{statement}
 use Rattle.sheet.proofs.row_size.Tie as tie
@@ -41,7 +41,7 @@ add-result-2 c = omega (arith, c .before .before .place-size .ensures .most, c .
 
 -- src/lib.rt:204:1
 returns : tie.Need-returns
-returns c = let e = c .before .before .before .word .ensures in let a = rw e at (c .before .before .place-size .ensures) in let b = rw e at (c .before .marks-size .ensures) in let d = rw e at (c .values-size .ensures) in sized _ (row-text (four (c .before .before .before .before .before .before .before .before .args .heads .now) (c .before .before .before .before .before .before .before .before .args .keys .now) (c .before .before .before .before .before .before .before .before .args .marks .now) (c .before .before .before .before .before .before .before .before .args .values .now)) (c .before .before .before .before .before .before .before .before .args .s)) (simp length-append (omega (arith, a .size, b .size, d .size))) (omega (arith, a .most, b .most, d .most))
+returns c = sized _ (row-here (four (c .before .before .before .before .before .before .before .before .args .heads .now) (c .before .before .before .before .before .before .before .before .args .keys .now) (c .before .before .before .before .before .before .before .before .args .marks .now) (c .before .before .before .before .before .before .before .before .args .values .now)) (c .before .before .before .before .before .before .before .before .args .s) (c .before .before .before .word .ensures)) (simp length-append (omega (arith, c .before .before .place-size .ensures .size, c .before .marks-size .ensures .size, c .values-size .ensures .size))) (omega (arith, c .before .before .place-size .ensures .most, c .before .marks-size .ensures .most, c .values-size .ensures .most))
 
 pub row-size-spec : {M : Type 1} → statement M
 row-size-spec =
