@@ -16,7 +16,7 @@ use Rattle.writers.proofs.Over.{first as opening}
 use Rattle.lines.specs.Rows.{valueOf}
 use Rattle.lines.specs.Spots.{spotOf}
 use Rattle.lines.specs.declared.Spot.{Spot}
-use Rattle.tables.specs.Words.{sideIn, marksAt, valuesAt, Tables}
+use Rattle.tables.specs.Words.{marksAt, valuesAt, Tables}
 use Rattle.tables.specs.Seek.{further}
 use Rattle.tables.specs.Standing.{first}
 use Rattle.tables.specs.declared.Stop.{Stop}

@@ -2,7 +2,7 @@
 -- Assumes nothing.
 use Prim.Native.Nat.{ℕ, _≤_, _<_}
 use native.Mathlib.Omega.{arith}
-use mathlib.Core.Path.{_≡_, refl, sym, ap, _∙_}
+use mathlib.Core.Path.{_≡_, refl, ap, _∙_}
 use mathlib.Core.List.{List, [], _∷_}
 use borrow.Author.Tests.{lt-ltb, le-ltb}
 use lib.ListN.{length}
@@ -12,7 +12,6 @@ use Rattle.meaning.specs.Sheet.{Row, rowsOf, sheet, save}
 use Rattle.meaning.specs.Sound.{Sound}
 use Rattle.meaning.specs.Promises.{Saves}
 use Rattle.meaning.specs.declared.Counters.{Counters}
-use Rattle.meaning.specs.declared.Saved.{Saved}
 use Rattle.meaning.specs.declared.Saved.the-variants.{Written, ShortBuffer}
 use Rattle.theorems.specs.Fit.{FitOn}
 use Rattle.theorems.specs.Saved.{sound-fits}

@@ -1,6 +1,6 @@
 -- Of tables that hold a document's rows, the text is the document's sheet: `sheet-is`.
 -- Assumes nothing.
-use Prim.Native.Nat.{ℕ, _+_, _*_, _-_, _≤_, _<_}
+use Prim.Native.Nat.{ℕ, _+_, _*_, _-_, _≤_}
 use native.Mathlib.Omega.{arith}
 use mathlib.Core.Path.{_≡_, refl, sym, ap, ap₂, _∙_, subst}
 use mathlib.Core.Bool.{Bool, true, false}
@@ -18,21 +18,23 @@ use Rattle.meaning.specs.Sheet.{Spot, inMap, inList, Row, rowsOf, Line, placeLi
 use Rattle.meaning.specs.Sheet.{rowLines, rowsLines, sheetLines, sheet}
 use Rattle.theorems.specs.Accepting.{marks-append, values-append}
 use Rattle.readers.specs.Words.{pack, wordsOf}
-use Rattle.writers.specs.declared.Kind.the-variants.{NonNeg, Neg, String}
+use Rattle.writers.specs.declared.Kind.the-variants.{String}
 use Rattle.writers.proofs.Over.{append-none}
 use Rattle.lines.specs.Rows.{valueOf}
 use Rattle.lines.specs.Spots.{spotOf}
 use Rattle.lines.proofs.Words.{key-back, string-back}
-use Rattle.tables.specs.Words.{bit, side, headWord, mapIn, listIn, spotWords, valueWords, eachValue, marksOf, valuesOf, Tables}
+use Rattle.tables.specs.Words.{bit, side, headWord, mapIn, listIn, spotWords, valueWords, eachValue, marksOf, valuesOf}
 use Rattle.tables.specs.Seek.{three, further}
 use Rattle.tables.specs.Finds.{GoodSpot, Narrow, AllNarrow, bit-small, side-small, depth-in, side-in, marks-in, values-in, after}
 use Rattle.tables.specs.Standing.{first, behind}
 use Rattle.tables.specs.Holding.{marksRoom, valuesRoom, Holds, four}
-use Rattle.tables.specs.Parts.{At, at-behind, behind-at, holds-narrow, all-narrow-right, plain-six, marks-length, values-length, marks-parts, values-parts}
+use Rattle.tables.specs.Parts.{At, at-behind, behind-at, holds-narrow, all-narrow-right}
+use Rattle.tables.specs.Parts.{plain-six, marks-length, values-length, marks-parts, values-parts}
 use Rattle.tables.specs.Stands.{head-at, key-at}
 use Rattle.tables.specs.declared.Counts.{Counts}
 use Rattle.tables.specs.declared.Stop.{Stop}
-use Rattle.sheet.specs.Texts.{kindIn, spotIn, placeText, valueAt, valueText, markText, texts, marksText, valuesText, headAt, rowText, rowsText, sheetText}
+use Rattle.sheet.specs.Texts.{kindIn, spotIn, placeText, valueAt, valueText, markText, texts}
+use Rattle.sheet.specs.Texts.{marksText, valuesText, headAt, rowText, rowsText, sheetText}
 use Rattle.sheet.specs.Saving.{ValidRow}
 use Rattle.sheet.proofs.Rows.{row-text}
 
@@ -46,7 +48,8 @@ unfolding linesText
 one-line l = append-none (lineText l)
 
 -- Texts one behind the other are the lines of things, if each stands where its text is taken from.
-module _ {S A : Type 0} (piece : S → List ℕ) (on : S → S) (lines : A → List Line) (many : List A → List Line) (Stands : S → List A → Type 0) where
+module _ {S A : Type 0} (piece : S → List ℕ) (on : S → S) (lines : A → List Line) (many : List A → List Line)
+    (Stands : S → List A → Type 0) where
   all-lines : many [] ≡ [] → ((a : A) (xs : List A) → many (a ∷ xs) ≡ lines a ++ many xs)
       → ((s : S) (a : A) (xs : List A) → Stands s (a ∷ xs) → (piece s ≡ linesText (lines a)) × Stands (on s) xs)
       → (s : S) (xs : List A) → Stands s xs → texts piece on s (length xs) ≡ linesText (many xs)
@@ -83,7 +86,15 @@ string-kind n m h =
     let d : 5 + n ≡ 3 → ⊥ = λ e. omega arith in
     let f : 5 + n ≡ 4 → ⊥ = λ e. omega arith in
     let l : 5 + n - 5 ≡ n = omega arith in
-    rw (ne-eqb (5 + n) 1 a, ne-eqb (5 + n) 2 b, ne-eqb (5 + n) 3 d, ne-eqb (5 + n) 4 f, le-ltb (5 + n) 5 (omega arith), le-ltb 37 (5 + n) (omega arith), l)
+    rw (
+      ne-eqb (5 + n) 1 a,
+      ne-eqb (5 + n) 2 b,
+      ne-eqb (5 + n) 3 d,
+      ne-eqb (5 + n) 4 f,
+      le-ltb (5 + n) 5 (omega arith),
+      le-ltb 37 (5 + n) (omega arith),
+      l,
+    )
 
 -- the value that six words hold
 abbrev held : List ℕ → Value
@@ -119,7 +130,8 @@ module _ (table later : List ℕ) where
       (λ i v vs h.
       let e = h .0 ∙ append-assoc (valueWords v) (eachValue vs) later in
       let f : 6 * i + 6 ≡ 6 * (i + 1) = omega arith in (
-        ap (λ v. lineText (valueLine v)) (value-held i _ e ∙ held-back (v .id) (v .val) (eachValue vs ++ later) (h .1 .0)) ∙ sym (one-line (valueLine v)),
+        ap (λ v. lineText (valueLine v)) (value-held i _ e ∙ held-back (v .id) (v .val) (eachValue vs ++ later) (h .1 .0))
+            ∙ sym (one-line (valueLine v)),
         (
           ap (λ n. drop n table) (sym f) ∙ (sym (drop-drop 6 (6 * i) table)
               ∙ (ap (drop 6) e ∙ drop-at (valueWords v) (eachValue vs ++ later) 6 (omega (arith, plain-six (v .val))))),
@@ -153,23 +165,21 @@ module _ (h k m v : List ℕ) (c : Counts) where
     valid : All ValidRow B
 
   module _ (s : Stop) (r : Row) (R : List Row) (st : Standing s (r ∷ R)) where
-    A : List Row
+    abbrev A : List Row
     A = st .ahead
 
     narrow : Narrow r
-    unfolding AllNarrow A
+    unfolding AllNarrow
     narrow = all-narrow-right A (r ∷ R) (holds-narrow (four h k m v) c (A ++ r ∷ R) (st .holds)) .0
 
     at : At s A
-    unfolding A
     at = at-behind s A (st .here)
 
     head-is : headAt (four h k m v) s ≡ headWord r
-    unfolding A
     head-is = ap (λ i. getD h i 0) (at .row) ∙ head-at h k m v c A R r (st .holds)
 
     place-is : placeText (headWord r) k (s .row) ≡ lineText (placeLine (r .depth) (r .spot) (r .map) (r .list))
-    unfolding placeText A
+    unfolding placeText
     place-is =
         rw (
           at .row,
@@ -184,7 +194,6 @@ module _ (h k m v : List ℕ) (c : Counts) where
         )
 
     marks-are : marksText m (s .mark) (length (r .marks)) ≡ linesText (map markLine (r .marks))
-    unfolding A
     marks-are =
         let z : List ℕ = replicate (marksRoom - length (marksOf (A ++ r ∷ R))) 0 in
         marks-lines m (marksOf R ++ z) (s .mark) (r .marks)
@@ -192,12 +201,13 @@ module _ (h k m v : List ℕ) (c : Counts) where
         ∙ drop-at (marksOf A) (r .marks ++ (marksOf R ++ z)) (s .mark) (omega (arith, marks-length A, at .mark)))
 
     values-are : valuesText v (s .value) (length (r .values)) ≡ linesText (map valueLine (r .values))
-    unfolding A Valued
+    unfolding Valued
     values-are =
         let z : List ℕ = replicate (valuesRoom - length (valuesOf (A ++ r ∷ R))) 0 in
         values-lines v (valuesOf R ++ z) (s .value) (r .values) (
           ap (drop (6 * s .value)) (st .holds .values ∙ values-parts A r R z)
-              ∙ drop-at (valuesOf A) (eachValue (r .values) ++ (valuesOf R ++ z)) (6 * s .value) (omega (arith, values-length A, at .value)),
+              ∙ drop-at (valuesOf A) (eachValue (r .values) ++ (valuesOf R ++ z)) (6 * s .value)
+              (omega (arith, values-length A, at .value)),
           st .valid .0,
         )
 
@@ -206,10 +216,11 @@ module _ (h k m v : List ℕ) (c : Counts) where
     row-is =
         row-text (four h k m v) s
         ∙ (rw (head-is, place-is, marks-in r narrow, values-in r narrow, marks-are, values-are)
-        (ap (lineText (placeLine (r .depth) (r .spot) (r .map) (r .list)) ++_) (sym (lines-append (map markLine (r .marks)) (map valueLine (r .values))))))
+        (ap (lineText (placeLine (r .depth) (r .spot) (r .map) (r .list)) ++_)
+        (sym (lines-append (map markLine (r .marks)) (map valueLine (r .values))))))
 
     stands-on : Standing (further s (headAt (four h k m v) s)) R
-    unfolding A marksIn valuesIn
+    unfolding marksIn valuesIn
     stands-on = record {
       ahead = A ++ (r ∷ []);
       holds = subst (Holds (four h k m v) c) (sym (append-assoc A (r ∷ []) R)) (st .holds);

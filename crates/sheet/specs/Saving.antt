@@ -20,5 +20,6 @@ ValidRow r = All (λ v. ValidPlain (v .val)) (r .values)
 
 -- If the tables hold a document, its sheet is saved. Whatever they hold, nothing is written into a buffer that is too short.
 pub record Saving (h k m v : List ℕ) (c : Counts) (seen : Counters) (before : List ℕ) (answer : Saved) (after : List ℕ) : Type 0 where
-  pub saves : (D : Document) → Holds (four h k m v) c (rowsOf D) → All ValidRow (rowsOf D) → seen .at ≡ D .seen → Saves D before answer after
+  pub saves : (D : Document) → Holds (four h k m v) c (rowsOf D) → All ValidRow (rowsOf D) → seen .at ≡ D .seen
+      → Saves D before answer after
   pub untouched : (needed : ℕ) → answer ≡ ShortBuffer needed → after ≡ before

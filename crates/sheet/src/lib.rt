@@ -220,7 +220,8 @@ fn row_size(
     t: &[u64; 20],
 ) -> usize
     requires { ⌜ (now t ≡ powers) × Near s ⌝ }
-    ensures { λ r. ⌜ Sized (rowText (four (now (heads .entry)) (now (keys .entry)) (now (marks .entry)) (now (values .entry))) s) 154533 r ⌝ }
+    ensures { λ r. ⌜ Sized (rowText (four (now (heads .entry)) (now (keys .entry)) (now (marks .entry)) (now (values .entry))) s)
+        154533 r ⌝ }
 {
     let h = word(heads, s.row);
     let a = place_size(h, keys, s.row, t);
@@ -238,8 +239,10 @@ fn put_row(
     s: Stop,
     t: &[u64; 20],
 ) -> usize
-    requires { ⌜ (now t ≡ powers) × Near s × (length (rowText (four (now heads) (now keys) (now marks) (now values)) s) ≤ length (now buf)) ⌝ }
-    ensures { λ r. ⌜ Wrote (rowText (four (now (heads .entry)) (now (keys .entry)) (now (marks .entry)) (now (values .entry))) s) (now (buf .entry)) (now (buf .exit)) r ⌝ }
+    requires { ⌜ (now t ≡ powers) × Near s
+        × (length (rowText (four (now heads) (now keys) (now marks) (now values)) s) ≤ length (now buf)) ⌝ }
+    ensures { λ r. ⌜ Wrote (rowText (four (now (heads .entry)) (now (keys .entry)) (now (marks .entry)) (now (values .entry))) s)
+        (now (buf .entry)) (now (buf .exit)) r ⌝ }
 {
     let h = word(heads, s.row);
     let a = put_place(buf, h, keys, s.row, t);
@@ -278,7 +281,8 @@ fn rows_size(
     t: &[u64; 20],
 ) -> usize
     requires { ⌜ (now t ≡ powers) × (rows ≤ 264) ⌝ }
-    ensures { λ r. ⌜ Sized (rowsText (four (now (heads .entry)) (now (keys .entry)) (now (marks .entry)) (now (values .entry))) first rows) (154533 * rows) r ⌝ }
+    ensures { λ r. ⌜ Sized (rowsText (four (now (heads .entry)) (now (keys .entry)) (now (marks .entry)) (now (values .entry))) first rows)
+        (154533 * rows) r ⌝ }
 {
     let mut sum: usize = 0;
     let mut s = Stop {
@@ -304,8 +308,10 @@ fn put_rows(
     rows: usize,
     t: &[u64; 20],
 ) -> usize
-    requires { ⌜ (now t ≡ powers) × (rows ≤ 264) × (length (rowsText (four (now heads) (now keys) (now marks) (now values)) first rows) ≤ length (now buf)) ⌝ }
-    ensures { λ r. ⌜ Wrote (rowsText (four (now (heads .entry)) (now (keys .entry)) (now (marks .entry)) (now (values .entry))) first rows) (now (buf .entry)) (now (buf .exit)) r ⌝ }
+    requires { ⌜ (now t ≡ powers) × (rows ≤ 264)
+        × (length (rowsText (four (now heads) (now keys) (now marks) (now values)) first rows) ≤ length (now buf)) ⌝ }
+    ensures { λ r. ⌜ Wrote (rowsText (four (now (heads .entry)) (now (keys .entry)) (now (marks .entry)) (now (values .entry))) first rows)
+        (now (buf .entry)) (now (buf .exit)) r ⌝ }
 {
     let mut at: usize = 0;
     let mut s = Stop {
@@ -334,7 +340,8 @@ fn sheet_size(
     t: &[u64; 20],
 ) -> usize
     requires { ⌜ (now t ≡ powers) × (rows ≤ 264) ⌝ }
-    ensures { λ r. ⌜ r ≡ length (sheetText (four (now (heads .entry)) (now (keys .entry)) (now (marks .entry)) (now (values .entry))) rows (seen .at)) ⌝ }
+    ensures { λ r. ⌜ r ≡ length
+        (sheetText (four (now (heads .entry)) (now (keys .entry)) (now (marks .entry)) (now (values .entry))) rows (seen .at)) ⌝ }
 {
     let a = seen_line_size(seen, t);
     let b = rows_size(heads, keys, marks, values, rows, t);
@@ -352,8 +359,11 @@ fn put_sheet(
     seen: Counters,
     t: &[u64; 20],
 ) -> usize
-    requires { ⌜ (now t ≡ powers) × (rows ≤ 264) × (length (sheetText (four (now heads) (now keys) (now marks) (now values)) rows (seen .at)) ≤ length (now buf)) ⌝ }
-    ensures { λ r. ⌜ Wrote (sheetText (four (now (heads .entry)) (now (keys .entry)) (now (marks .entry)) (now (values .entry))) rows (seen .at)) (now (buf .entry)) (now (buf .exit)) r ⌝ }
+    requires { ⌜ (now t ≡ powers) × (rows ≤ 264)
+        × (length (sheetText (four (now heads) (now keys) (now marks) (now values)) rows (seen .at)) ≤ length (now buf)) ⌝ }
+    ensures { λ r. ⌜ Wrote
+        (sheetText (four (now (heads .entry)) (now (keys .entry)) (now (marks .entry)) (now (values .entry))) rows (seen .at))
+        (now (buf .entry)) (now (buf .exit)) r ⌝ }
 {
     let a = put_text(buf, b"sheet=1\n");
     let b = a + put_seen_line(&mut buf[a..], seen, t);
@@ -371,7 +381,8 @@ pub fn save(
     seen: Counters,
     buf: &mut [u8],
 ) -> Saved
-    ensures { λ r. ⌜ Saving (now (heads .entry)) (now (keys .entry)) (now (marks .entry)) (now (values .entry)) c seen (now (buf .entry)) r (now (buf .exit)) ⌝ }
+    ensures { λ r. ⌜ Saving (now (heads .entry)) (now (keys .entry)) (now (marks .entry)) (now (values .entry)) c seen
+        (now (buf .entry)) r (now (buf .exit)) ⌝ }
 {
     let rows = c.rows;
     if 264 < rows {

@@ -3,53 +3,41 @@
 use native.Mathlib.Omega.{arith}
 use borrow.Author.Tests.{eq-eqb, ne-eqb, lt-ltb, le-ltb}
 use Rattle.sheet.specs.Texts.{kindIn}
-use borrow.Author.Needs.{needs}
 use Rattle.sheet.proofs.kind_of.Statement.{statement}
 use Rattle.sheet.proofs.kind_of.Tie as tie
-use Rattle.sheet.proofs.kind_of.Reads as reads
-use Rattle.sheet.proofs.kind_of.Lts as lts
 
--- src/lib.rt:47:9
 returns : tie.Need-returns
 unfolding kindIn
 returns c = (rw (eq-eqb _ _ (c .if1 .taken)), tt)
 
--- src/lib.rt:50:9
 returns-2 : tie.Need-returns-2
 unfolding kindIn
 returns-2 c = (rw (ne-eqb _ _ (c .before .if1 .left), eq-eqb _ _ (c .if2 .taken)), tt)
 
--- src/lib.rt:54:13
 returns-3 : tie.Need-returns-3
 unfolding kindIn
 returns-3 c = (rw (ne-eqb _ _ (c .before .before .before .if1 .left), ne-eqb _ _ (c .before .before .if2 .left), eq-eqb _ _ (c .before .if3 .taken), lt-ltb _ _ (c .if4 .taken)), tt)
 
--- src/lib.rt:56:9
 returns-4 : tie.Need-returns-4
 unfolding kindIn
 returns-4 c = (rw (ne-eqb _ _ (c .before .before .before .if1 .left), ne-eqb _ _ (c .before .before .if2 .left), eq-eqb _ _ (c .before .if3 .taken), le-ltb _ _ (c .if4 .left)), omega arith)
 
--- src/lib.rt:60:13
 returns-5 : tie.Need-returns-5
 unfolding kindIn
 returns-5 c = (rw (ne-eqb _ _ (c .before .before .before .before .if1 .left), ne-eqb _ _ (c .before .before .before .if2 .left), ne-eqb _ _ (c .before .before .if3 .left), eq-eqb _ _ (c .before .if5 .taken), lt-ltb _ _ (c .if6 .taken)), tt)
 
--- src/lib.rt:62:9
 returns-6 : tie.Need-returns-6
 unfolding kindIn
 returns-6 c = (rw (ne-eqb _ _ (c .before .before .before .before .if1 .left), ne-eqb _ _ (c .before .before .before .if2 .left), ne-eqb _ _ (c .before .before .if3 .left), eq-eqb _ _ (c .before .if5 .taken), le-ltb _ _ (c .if6 .left)), omega arith)
 
--- src/lib.rt:65:9
 returns-7 : tie.Need-returns-7
 unfolding kindIn
 returns-7 c = (rw (ne-eqb _ _ (c .before .before .before .before .if1 .left), ne-eqb _ _ (c .before .before .before .if2 .left), ne-eqb _ _ (c .before .before .if3 .left), ne-eqb _ _ (c .before .if5 .left), lt-ltb _ _ (c .if7 .taken)), tt)
 
--- src/lib.rt:68:9
 returns-8 : tie.Need-returns-8
 unfolding kindIn
 returns-8 c = (rw (ne-eqb _ _ (c .before .before .before .before .before .if1 .left), ne-eqb _ _ (c .before .before .before .before .if2 .left), ne-eqb _ _ (c .before .before .before .if3 .left), ne-eqb _ _ (c .before .before .if5 .left), le-ltb _ _ (c .before .if7 .left), lt-ltb _ _ (c .if8 .taken)), tt)
 
--- src/lib.rt:43:1
 returns-9 : tie.Need-returns-9
 unfolding kindIn
 returns-9 c = (rw (ne-eqb _ _ (c .before .before .before .before .before .if1 .left), ne-eqb _ _ (c .before .before .before .before .if2 .left), ne-eqb _ _ (c .before .before .before .if3 .left), ne-eqb _ _ (c .before .before .if5 .left), le-ltb _ _ (c .before .if7 .left), le-ltb _ _ (c .if8 .left)), omega arith)

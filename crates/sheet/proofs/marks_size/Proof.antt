@@ -9,10 +9,6 @@ use Rattle.meaning.specs.Sheet.{lineText, markLine}
 use borrow.Author.Needs.{needs}
 use Rattle.sheet.proofs.marks_size.Statement.{statement}
 use Rattle.sheet.proofs.marks_size.Tie as tie
-use Rattle.sheet.proofs.marks_size.Reads as reads
-use Rattle.sheet.proofs.marks_size.Lts as lts
-use Rattle.lines.proofs.mark_line_size.Reads as mark-line-size-reads
-use Rattle.sheet.proofs.word.Reads as word-reads
 
 abbrev Inv-loop : tie.InvT-loop
 Inv-loop marks from n t sum₀ i₀ left₀ sum i left = Summing (marksText marks from n) (marksText marks i left) 47 left (47 * n) sum × (i + left ≡ from + n)
@@ -20,39 +16,30 @@ Inv-loop marks from n t sum₀ i₀ left₀ sum i left = Summing (marksText mark
 abbrev μ-loop : tie.MeasureT-loop
 μ-loop marks from n t sum₀ i₀ left₀ sum i left = left
 
--- src/lib.rt:147:5
 loop-holds : tie.Need-loop-holds Inv-loop μ-loop
 loop-holds c = (sum-begun (markText (c .before .args .marks .now)) (λ i. i + 1) (c .before .args .from) (c .before .args .n) 47, refl)
 
--- src/lib.rt:148:31
 word-requires : tie.Need-word-requires Inv-loop μ-loop
 word-requires c κs = search needs
 
--- src/lib.rt:148:16
 mark-line-size-requires : tie.Need-mark-line-size-requires Inv-loop μ-loop
 mark-line-size-requires c κs = c .before .before .before .before .pre .0
 
--- src/lib.rt:148:9
 add-sum : tie.Need-add-sum Inv-loop μ-loop
 add-sum c = omega (arith, c .mark-line-size .ensures .most, c .before .before .before .loop .inv .0 .most, c .before .before .loop-test .taken, c .before .before .before .before .before .pre .1)
 
--- src/lib.rt:149:9
 add-i : tie.Need-add-i Inv-loop μ-loop
 add-i c = omega (arith, c .before .before .before .loop .inv .1, c .before .before .loop-test .taken, c .before .before .before .before .before .pre .1)
 
--- src/lib.rt:150:9
 sub-left : tie.Need-sub-left Inv-loop μ-loop
 sub-left c = omega (arith, c .before .before .loop-test .taken)
 
--- src/lib.rt:147:5
 loop-less : tie.Need-loop-less Inv-loop μ-loop
 loop-less c = omega (arith, c .before .before .loop-test .taken)
 
--- src/lib.rt:147:5
 loop-again : tie.Need-loop-again Inv-loop μ-loop
 loop-again c = (sum-more (markText (c .before .before .before .before .before .args .marks .now)) (λ i. i + 1) (c .before .before .before .loop .i) (c .before .before .before .loop .left) (c .before .before .loop-test .taken) (c .before .before .before .loop .inv .0) (sized-as (ap (λ i. lineText (markLine i)) (c .before .word .ensures)) (c .mark-line-size .ensures)), omega (arith, c .before .before .before .loop .inv .1, c .before .before .loop-test .taken))
 
--- src/lib.rt:140:1
 returns : tie.Need-returns Inv-loop μ-loop
 returns c = sum-all (markText (c .before .before .before .args .marks .now)) (λ i. i + 1) (c .before .loop .i) (c .before .loop .left) (c .loop-test .left) (c .before .loop .inv .0)
 

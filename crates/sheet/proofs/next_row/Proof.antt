@@ -4,27 +4,19 @@ use native.Mathlib.Omega.{arith}
 use borrow.Author.Needs.{needs}
 use Rattle.sheet.proofs.next_row.Statement.{statement}
 use Rattle.sheet.proofs.next_row.Tie as tie
-use Rattle.sheet.proofs.next_row.Reads as reads
-use Rattle.sheet.proofs.next_row.Lts as lts
-use Rattle.sheet.proofs.word.Reads as word-reads
 
--- src/lib.rt:245:9
 word-requires : tie.Need-word-requires
 word-requires c κs = search needs
 
--- src/lib.rt:247:14
 add-t4 : tie.Need-add-t4
 add-t4 c = omega (arith, c .before .before .before .pre .row)
 
--- src/lib.rt:248:15
 add-t8 : tie.Need-add-t8
 add-t8 c = omega (arith, c .before .before .before .before .pre .row, c .before .before .before .before .pre .mark)
 
--- src/lib.rt:249:16
 add-t12 : tie.Need-add-t12
 add-t12 c = omega (arith, c .before .before .before .before .before .pre .row, c .before .before .before .before .before .pre .value)
 
--- src/lib.rt:241:1
 returns : tie.Need-returns
 returns c = rw (c .before .before .before .word .ensures)
 

@@ -11,86 +11,61 @@ use Rattle.sheet.proofs.Rows.{start-room, behind-start, behind-seen, be
 use borrow.Author.Needs.{needs}
 use Rattle.sheet.proofs.put_sheet.Statement.{statement}
 use Rattle.sheet.proofs.put_sheet.Tie as tie
-use Rattle.sheet.proofs.put_sheet.Reads as reads
-use Rattle.sheet.proofs.put_sheet.Lts as lts
-use Rattle.lines.proofs.put_end_line.Reads as put-end-line-reads
-use Rattle.lines.proofs.put_seen_line.Reads as put-seen-line-reads
-use Rattle.sheet.proofs.put_rows.Reads as put-rows-reads
-use Rattle.writers.proofs.put_text.Reads as put-text-reads
 
--- src/lib.rt:341:27
 slice-aggregate-put-text : tie.Need-slice-aggregate-put-text
 slice-aggregate-put-text c = search needs
 
--- src/lib.rt:341:9
 put-text-requires : tie.Need-put-text-requires
 put-text-requires c κs = start-room (four (c .before .before .before .before .before .before .before .args .heads .now) (c .before .before .before .before .before .before .before .args .keys .now) (c .before .before .before .before .before .before .before .args .marks .now) (c .before .before .before .before .before .before .before .args .values .now)) (c .before .before .before .before .before .before .before .args .rows) (c .before .before .before .before .before .before .before .args .seen .at) (c .before .before .before .before .before .before .before .args .buf .now) (c .before .before .before .before .before .before .before .pre .2)
 
--- src/lib.rt:342:31
 sub-put-seen-line : tie.Need-sub-put-seen-line
 sub-put-seen-line c = omega (arith, last-room (behind-start (four (c .before .before .before .before .before .before .before .before .before .before .args .heads .now) (c .before .before .before .before .before .before .before .before .before .before .args .keys .now) (c .before .before .before .before .before .before .before .before .before .before .args .marks .now) (c .before .before .before .before .before .before .before .before .before .before .args .values .now)) (c .before .before .before .before .before .before .before .before .before .before .args .rows) (c .before .before .before .before .before .before .before .before .before .before .args .seen .at) (c .before .before .before .before .before .before .before .before .before .before .args .buf .now) (c .before .before .before .before .before .before .before .before .before .before .pre .2) (c .before .before .put-text .ensures)))
 
--- src/lib.rt:342:31
 part-put-seen-line-start : tie.Need-part-put-seen-line-start
 part-put-seen-line-start c = omega (arith, last-room (behind-start (four (c .before .before .before .before .before .before .before .before .before .before .args .heads .now) (c .before .before .before .before .before .before .before .before .before .before .args .keys .now) (c .before .before .before .before .before .before .before .before .before .before .args .marks .now) (c .before .before .before .before .before .before .before .before .before .before .args .values .now)) (c .before .before .before .before .before .before .before .before .before .before .args .rows) (c .before .before .before .before .before .before .before .before .before .before .args .seen .at) (c .before .before .before .before .before .before .before .before .before .before .args .buf .now) (c .before .before .before .before .before .before .before .before .before .before .pre .2) (c .before .before .put-text .ensures)))
 
--- src/lib.rt:342:31
 part-put-seen-line-end : tie.Need-part-put-seen-line-end
 part-put-seen-line-end c = omega (arith, last-room (behind-start (four (c .before .before .before .before .before .before .before .before .before .before .args .heads .now) (c .before .before .before .before .before .before .before .before .before .before .args .keys .now) (c .before .before .before .before .before .before .before .before .before .before .args .marks .now) (c .before .before .before .before .before .before .before .before .before .before .args .values .now)) (c .before .before .before .before .before .before .before .before .before .before .args .rows) (c .before .before .before .before .before .before .before .before .before .before .args .seen .at) (c .before .before .before .before .before .before .before .before .before .before .args .buf .now) (c .before .before .before .before .before .before .before .before .before .before .pre .2) (c .before .before .put-text .ensures)))
 
--- src/lib.rt:342:17
 put-seen-line-requires : tie.Need-put-seen-line-requires
 put-seen-line-requires c κs = (c .before .before .before .before .before .before .before .before .before .before .before .pre .0, lent-room (lineText (seenLine _)) _ (behind-start (four (c .before .before .before .before .before .before .before .before .before .before .before .args .heads .now) (c .before .before .before .before .before .before .before .before .before .before .before .args .keys .now) (c .before .before .before .before .before .before .before .before .before .before .before .args .marks .now) (c .before .before .before .before .before .before .before .before .before .before .before .args .values .now)) (c .before .before .before .before .before .before .before .before .before .before .before .args .rows) (c .before .before .before .before .before .before .before .before .before .before .before .args .seen .at) (c .before .before .before .before .before .before .before .before .before .before .before .args .buf .now) (c .before .before .before .before .before .before .before .before .before .before .before .pre .2) (c .before .before .before .put-text .ensures)))
 
--- src/lib.rt:342:13
 add-b : tie.Need-add-b
 add-b c = omega (arith, lent-fits _ _ (behind-start (four (c .before .before .before .before .before .before .before .before .before .before .before .before .before .before .args .heads .now) (c .before .before .before .before .before .before .before .before .before .before .before .before .before .before .args .keys .now) (c .before .before .before .before .before .before .before .before .before .before .before .before .before .before .args .marks .now) (c .before .before .before .before .before .before .before .before .before .before .before .before .before .before .args .values .now)) (c .before .before .before .before .before .before .before .before .before .before .before .before .before .before .args .rows) (c .before .before .before .before .before .before .before .before .before .before .before .before .before .before .args .seen .at) (c .before .before .before .before .before .before .before .before .before .before .before .before .before .before .args .buf .now) (c .before .before .before .before .before .before .before .before .before .before .before .before .before .before .pre .2) (c .before .before .before .before .before .before .put-text .ensures)) (c .before .before .put-seen-line .ensures), same-long (behind-start (four (c .before .before .before .before .before .before .before .before .before .before .before .before .before .before .args .heads .now) (c .before .before .before .before .before .before .before .before .before .before .before .before .before .before .args .keys .now) (c .before .before .before .before .before .before .before .before .before .before .before .before .before .before .args .marks .now) (c .before .before .before .before .before .before .before .before .before .before .before .before .before .before .args .values .now)) (c .before .before .before .before .before .before .before .before .before .before .before .before .before .before .args .rows) (c .before .before .before .before .before .before .before .before .before .before .before .before .before .before .args .seen .at) (c .before .before .before .before .before .before .before .before .before .before .before .before .before .before .args .buf .now) (c .before .before .before .before .before .before .before .before .before .before .before .before .before .before .pre .2) (c .before .before .before .before .before .before .put-text .ensures)))
 
--- src/lib.rt:343:26
 sub-put-rows : tie.Need-sub-put-rows
 sub-put-rows c = omega (arith, last-room (behind-seen (four (c .before .before .before .before .before .before .before .before .before .before .before .before .before .before .args .heads .now) (c .before .before .before .before .before .before .before .before .before .before .before .before .before .before .args .keys .now) (c .before .before .before .before .before .before .before .before .before .before .before .before .before .before .args .marks .now) (c .before .before .before .before .before .before .before .before .before .before .before .before .before .before .args .values .now)) (c .before .before .before .before .before .before .before .before .before .before .before .before .before .before .args .rows) (c .before .before .before .before .before .before .before .before .before .before .before .before .before .before .args .seen .at) (c .before .before .before .before .before .before .before .before .before .before .before .before .before .before .args .buf .now) (c .before .before .before .before .before .before .before .before .before .before .before .before .before .before .pre .2) (c .before .before .before .before .before .before .put-text .ensures) (c .before .before .put-seen-line .ensures)))
 
--- src/lib.rt:343:26
 part-put-rows-start : tie.Need-part-put-rows-start
 part-put-rows-start c = omega (arith, last-room (behind-seen (four (c .before .before .before .before .before .before .before .before .before .before .before .before .before .before .args .heads .now) (c .before .before .before .before .before .before .before .before .before .before .before .before .before .before .args .keys .now) (c .before .before .before .before .before .before .before .before .before .before .before .before .before .before .args .marks .now) (c .before .before .before .before .before .before .before .before .before .before .before .before .before .before .args .values .now)) (c .before .before .before .before .before .before .before .before .before .before .before .before .before .before .args .rows) (c .before .before .before .before .before .before .before .before .before .before .before .before .before .before .args .seen .at) (c .before .before .before .before .before .before .before .before .before .before .before .before .before .before .args .buf .now) (c .before .before .before .before .before .before .before .before .before .before .before .before .before .before .pre .2) (c .before .before .before .before .before .before .put-text .ensures) (c .before .before .put-seen-line .ensures)))
 
--- src/lib.rt:343:26
 part-put-rows-end : tie.Need-part-put-rows-end
 part-put-rows-end c = omega (arith, last-room (behind-seen (four (c .before .before .before .before .before .before .before .before .before .before .before .before .before .before .args .heads .now) (c .before .before .before .before .before .before .before .before .before .before .before .before .before .before .args .keys .now) (c .before .before .before .before .before .before .before .before .before .before .before .before .before .before .args .marks .now) (c .before .before .before .before .before .before .before .before .before .before .before .before .before .before .args .values .now)) (c .before .before .before .before .before .before .before .before .before .before .before .before .before .before .args .rows) (c .before .before .before .before .before .before .before .before .before .before .before .before .before .before .args .seen .at) (c .before .before .before .before .before .before .before .before .before .before .before .before .before .before .args .buf .now) (c .before .before .before .before .before .before .before .before .before .before .before .before .before .before .pre .2) (c .before .before .before .before .before .before .put-text .ensures) (c .before .before .put-seen-line .ensures)))
 
--- src/lib.rt:343:17
 put-rows-requires : tie.Need-put-rows-requires
 put-rows-requires c κs = (c .before .before .before .before .before .before .before .before .before .before .before .before .before .before .before .pre .0, c .before .before .before .before .before .before .before .before .before .before .before .before .before .before .before .pre .1, lent-room (rowsText (four (c .before .before .before .before .before .before .before .before .before .before .before .before .before .before .before .args .heads .now) (c .before .before .before .before .before .before .before .before .before .before .before .before .before .before .before .args .keys .now) (c .before .before .before .before .before .before .before .before .before .before .before .before .before .before .before .args .marks .now) (c .before .before .before .before .before .before .before .before .before .before .before .before .before .before .before .args .values .now)) first _) _ (behind-seen (four (c .before .before .before .before .before .before .before .before .before .before .before .before .before .before .before .args .heads .now) (c .before .before .before .before .before .before .before .before .before .before .before .before .before .before .before .args .keys .now) (c .before .before .before .before .before .before .before .before .before .before .before .before .before .before .before .args .marks .now) (c .before .before .before .before .before .before .before .before .before .before .before .before .before .before .before .args .values .now)) (c .before .before .before .before .before .before .before .before .before .before .before .before .before .before .before .args .rows) (c .before .before .before .before .before .before .before .before .before .before .before .before .before .before .before .args .seen .at) (c .before .before .before .before .before .before .before .before .before .before .before .before .before .before .before .args .buf .now) (c .before .before .before .before .before .before .before .before .before .before .before .before .before .before .before .pre .2) (c .before .before .before .before .before .before .before .put-text .ensures) (c .before .before .before .put-seen-line .ensures)))
 
--- src/lib.rt:343:13
 add-c : tie.Need-add-c
 add-c c = omega (arith, lent-fits _ _ (behind-seen (four (c .before .before .before .before .before .before .before .before .before .before .before .before .before .before .before .before .before .before .args .heads .now) (c .before .before .before .before .before .before .before .before .before .before .before .before .before .before .before .before .before .before .args .keys .now) (c .before .before .before .before .before .before .before .before .before .before .before .before .before .before .before .before .before .before .args .marks .now) (c .before .before .before .before .before .before .before .before .before .before .before .before .before .before .before .before .before .before .args .values .now)) (c .before .before .before .before .before .before .before .before .before .before .before .before .before .before .before .before .before .before .args .rows) (c .before .before .before .before .before .before .before .before .before .before .before .before .before .before .before .before .before .before .args .seen .at) (c .before .before .before .before .before .before .before .before .before .before .before .before .before .before .before .before .before .before .args .buf .now) (c .before .before .before .before .before .before .before .before .before .before .before .before .before .before .before .before .before .before .pre .2) (c .before .before .before .before .before .before .before .before .before .before .put-text .ensures) (c .before .before .before .before .before .before .put-seen-line .ensures)) (c .before .before .put-rows .ensures), same-long (behind-seen (four (c .before .before .before .before .before .before .before .before .before .before .before .before .before .before .before .before .before .before .args .heads .now) (c .before .before .before .before .before .before .before .before .before .before .before .before .before .before .before .before .before .before .args .keys .now) (c .before .before .before .before .before .before .before .before .before .before .before .before .before .before .before .before .before .before .args .marks .now) (c .before .before .before .before .before .before .before .before .before .before .before .before .before .before .before .before .before .before .args .values .now)) (c .before .before .before .before .before .before .before .before .before .before .before .before .before .before .before .before .before .before .args .rows) (c .before .before .before .before .before .before .before .before .before .before .before .before .before .before .before .before .before .before .args .seen .at) (c .before .before .before .before .before .before .before .before .before .before .before .before .before .before .before .before .before .before .args .buf .now) (c .before .before .before .before .before .before .before .before .before .before .before .before .before .before .before .before .before .before .pre .2) (c .before .before .before .before .before .before .before .before .before .before .put-text .ensures) (c .before .before .before .before .before .before .put-seen-line .ensures)))
 
--- src/lib.rt:344:22
 sub-put-end-line : tie.Need-sub-put-end-line
 sub-put-end-line c = omega (arith, last-room (behind-rows (four (c .before .before .before .before .before .before .before .before .before .before .before .before .before .before .before .before .before .before .args .heads .now) (c .before .before .before .before .before .before .before .before .before .before .before .before .before .before .before .before .before .before .args .keys .now) (c .before .before .before .before .before .before .before .before .before .before .before .before .before .before .before .before .before .before .args .marks .now) (c .before .before .before .before .before .before .before .before .before .before .before .before .before .before .before .before .before .before .args .values .now)) (c .before .before .before .before .before .before .before .before .before .before .before .before .before .before .before .before .before .before .args .rows) (c .before .before .before .before .before .before .before .before .before .before .before .before .before .before .before .before .before .before .args .seen .at) (c .before .before .before .before .before .before .before .before .before .before .before .before .before .before .before .before .before .before .args .buf .now) (c .before .before .before .before .before .before .before .before .before .before .before .before .before .before .before .before .before .before .pre .2) (c .before .before .before .before .before .before .before .before .before .before .put-text .ensures) (c .before .before .before .before .before .before .put-seen-line .ensures) (c .before .before .put-rows .ensures)))
 
--- src/lib.rt:344:22
 part-put-end-line-start : tie.Need-part-put-end-line-start
 part-put-end-line-start c = omega (arith, last-room (behind-rows (four (c .before .before .before .before .before .before .before .before .before .before .before .before .before .before .before .before .before .before .args .heads .now) (c .before .before .before .before .before .before .before .before .before .before .before .before .before .before .before .before .before .before .args .keys .now) (c .before .before .before .before .before .before .before .before .before .before .before .before .before .before .before .before .before .before .args .marks .now) (c .before .before .before .before .before .before .before .before .before .before .before .before .before .before .before .before .before .before .args .values .now)) (c .before .before .before .before .before .before .before .before .before .before .before .before .before .before .before .before .before .before .args .rows) (c .before .before .before .before .before .before .before .before .before .before .before .before .before .before .before .before .before .before .args .seen .at) (c .before .before .before .before .before .before .before .before .before .before .before .before .before .before .before .before .before .before .args .buf .now) (c .before .before .before .before .before .before .before .before .before .before .before .before .before .before .before .before .before .before .pre .2) (c .before .before .before .before .before .before .before .before .before .before .put-text .ensures) (c .before .before .before .before .before .before .put-seen-line .ensures) (c .before .before .put-rows .ensures)))
 
--- src/lib.rt:344:22
 part-put-end-line-end : tie.Need-part-put-end-line-end
 part-put-end-line-end c = omega (arith, last-room (behind-rows (four (c .before .before .before .before .before .before .before .before .before .before .before .before .before .before .before .before .before .before .args .heads .now) (c .before .before .before .before .before .before .before .before .before .before .before .before .before .before .before .before .before .before .args .keys .now) (c .before .before .before .before .before .before .before .before .before .before .before .before .before .before .before .before .before .before .args .marks .now) (c .before .before .before .before .before .before .before .before .before .before .before .before .before .before .before .before .before .before .args .values .now)) (c .before .before .before .before .before .before .before .before .before .before .before .before .before .before .before .before .before .before .args .rows) (c .before .before .before .before .before .before .before .before .before .before .before .before .before .before .before .before .before .before .args .seen .at) (c .before .before .before .before .before .before .before .before .before .before .before .before .before .before .before .before .before .before .args .buf .now) (c .before .before .before .before .before .before .before .before .before .before .before .before .before .before .before .before .before .before .pre .2) (c .before .before .before .before .before .before .before .before .before .before .put-text .ensures) (c .before .before .before .before .before .before .put-seen-line .ensures) (c .before .before .put-rows .ensures)))
 
--- src/lib.rt:344:9
 put-end-line-requires : tie.Need-put-end-line-requires
 put-end-line-requires c κs = (c .before .before .before .before .before .before .before .before .before .before .before .before .before .before .before .before .before .before .before .pre .0, end-room (behind-rows (four (c .before .before .before .before .before .before .before .before .before .before .before .before .before .before .before .before .before .before .before .args .heads .now) (c .before .before .before .before .before .before .before .before .before .before .before .before .before .before .before .before .before .before .before .args .keys .now) (c .before .before .before .before .before .before .before .before .before .before .before .before .before .before .before .before .before .before .before .args .marks .now) (c .before .before .before .before .before .before .before .before .before .before .before .before .before .before .before .before .before .before .before .args .values .now)) (c .before .before .before .before .before .before .before .before .before .before .before .before .before .before .before .before .before .before .before .args .rows) (c .before .before .before .before .before .before .before .before .before .before .before .before .before .before .before .before .before .before .before .args .seen .at) (c .before .before .before .before .before .before .before .before .before .before .before .before .before .before .before .before .before .before .before .args .buf .now) (c .before .before .before .before .before .before .before .before .before .before .before .before .before .before .before .before .before .before .before .pre .2) (c .before .before .before .before .before .before .before .before .before .before .before .put-text .ensures) (c .before .before .before .before .before .before .before .put-seen-line .ensures) (c .before .before .before .put-rows .ensures)))
 
--- src/lib.rt:344:5
 add-result : tie.Need-add-result
 add-result c = omega (arith, end-fits (behind-rows (four (c .before .before .before .before .before .before .before .before .before .before .before .before .before .before .before .before .before .before .before .before .before .before .args .heads .now) (c .before .before .before .before .before .before .before .before .before .before .before .before .before .before .before .before .before .before .before .before .before .before .args .keys .now) (c .before .before .before .before .before .before .before .before .before .before .before .before .before .before .before .before .before .before .before .before .before .before .args .marks .now) (c .before .before .before .before .before .before .before .before .before .before .before .before .before .before .before .before .before .before .before .before .before .before .args .values .now)) (c .before .before .before .before .before .before .before .before .before .before .before .before .before .before .before .before .before .before .before .before .before .before .args .rows) (c .before .before .before .before .before .before .before .before .before .before .before .before .before .before .before .before .before .before .before .before .before .before .args .seen .at) (c .before .before .before .before .before .before .before .before .before .before .before .before .before .before .before .before .before .before .before .before .before .before .args .buf .now) (c .before .before .before .before .before .before .before .before .before .before .before .before .before .before .before .before .before .before .before .before .before .before .pre .2) (c .before .before .before .before .before .before .before .before .before .before .before .before .before .before .put-text .ensures) (c .before .before .before .before .before .before .before .before .before .before .put-seen-line .ensures) (c .before .before .before .before .before .before .put-rows .ensures)) (c .before .before .put-end-line .ensures), same-long (behind-rows (four (c .before .before .before .before .before .before .before .before .before .before .before .before .before .before .before .before .before .before .before .before .before .before .args .heads .now) (c .before .before .before .before .before .before .before .before .before .before .before .before .before .before .before .before .before .before .before .before .before .before .args .keys .now) (c .before .before .before .before .before .before .before .before .before .before .before .before .before .before .before .before .before .before .before .before .before .before .args .marks .now) (c .before .before .before .before .before .before .before .before .before .before .before .before .before .before .before .before .before .before .before .before .before .before .args .values .now)) (c .before .before .before .before .before .before .before .before .before .before .before .before .before .before .before .before .before .before .before .before .before .before .args .rows) (c .before .before .before .before .before .before .before .before .before .before .before .before .before .before .before .before .before .before .before .before .before .before .args .seen .at) (c .before .before .before .before .before .before .before .before .before .before .before .before .before .before .before .before .before .before .before .before .before .before .args .buf .now) (c .before .before .before .before .before .before .before .before .before .before .before .before .before .before .before .before .before .before .before .before .before .before .pre .2) (c .before .before .before .before .before .before .before .before .before .before .before .before .before .before .put-text .ensures) (c .before .before .before .before .before .before .before .before .before .before .put-seen-line .ensures) (c .before .before .before .before .before .before .put-rows .ensures)))
 
--- src/lib.rt:328:1
 same-length : tie.Need-same-length
 same-length c = same-long (lent-end (behind-rows (four (c .before .before .before .before .before .before .before .before .before .before .before .before .before .before .before .before .before .before .before .before .before .before .args .heads .now) (c .before .before .before .before .before .before .before .before .before .before .before .before .before .before .before .before .before .before .before .before .before .before .args .keys .now) (c .before .before .before .before .before .before .before .before .before .before .before .before .before .before .before .before .before .before .before .before .before .before .args .marks .now) (c .before .before .before .before .before .before .before .before .before .before .before .before .before .before .before .before .before .before .before .before .before .before .args .values .now)) (c .before .before .before .before .before .before .before .before .before .before .before .before .before .before .before .before .before .before .before .before .before .before .args .rows) (c .before .before .before .before .before .before .before .before .before .before .before .before .before .before .before .before .before .before .before .before .before .before .args .seen .at) (c .before .before .before .before .before .before .before .before .before .before .before .before .before .before .before .before .before .before .before .before .before .before .args .buf .now) (c .before .before .before .before .before .before .before .before .before .before .before .before .before .before .before .before .before .before .before .before .before .before .pre .2) (c .before .before .before .before .before .before .before .before .before .before .before .before .before .before .put-text .ensures) (c .before .before .before .before .before .before .before .before .before .before .put-seen-line .ensures) (c .before .before .before .before .before .before .put-rows .ensures)) (c .before .before .put-end-line .ensures))
 
--- src/lib.rt:328:1
 returns : tie.Need-returns
 returns c = all (lent-end (behind-rows (four (c .before .before .before .before .before .before .before .before .before .before .before .before .before .before .before .before .before .before .before .before .before .before .args .heads .now) (c .before .before .before .before .before .before .before .before .before .before .before .before .before .before .before .before .before .before .before .before .before .before .args .keys .now) (c .before .before .before .before .before .before .before .before .before .before .before .before .before .before .before .before .before .before .before .before .before .before .args .marks .now) (c .before .before .before .before .before .before .before .before .before .before .before .before .before .before .before .before .before .before .before .before .before .before .args .values .now)) (c .before .before .before .before .before .before .before .before .before .before .before .before .before .before .before .before .before .before .before .before .before .before .args .rows) (c .before .before .before .before .before .before .before .before .before .before .before .before .before .before .before .before .before .before .before .before .before .before .args .seen .at) (c .before .before .before .before .before .before .before .before .before .before .before .before .before .before .before .before .before .before .before .before .before .before .args .buf .now) (c .before .before .before .before .before .before .before .before .before .before .before .before .before .before .before .before .before .before .before .before .before .before .pre .2) (c .before .before .before .before .before .before .before .before .before .before .before .before .before .before .put-text .ensures) (c .before .before .before .before .before .before .before .before .before .before .put-seen-line .ensures) (c .before .before .before .before .before .before .put-rows .ensures)) (c .before .before .put-end-line .ensures))
 

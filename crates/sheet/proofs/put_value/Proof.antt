@@ -7,73 +7,52 @@ use Rattle.sheet.proofs.Rows.{value-here}
 use borrow.Author.Needs.{needs}
 use Rattle.sheet.proofs.put_value.Statement.{statement}
 use Rattle.sheet.proofs.put_value.Tie as tie
-use Rattle.sheet.proofs.put_value.Reads as reads
-use Rattle.sheet.proofs.put_value.Lts as lts
-use Rattle.lines.proofs.put_value_line.Reads as put-value-line-reads
-use Rattle.sheet.proofs.kind_of.Reads as kind-of-reads
-use Rattle.sheet.proofs.word.Reads as word-reads
 
--- src/lib.rt:131:13
 mul-a : tie.Need-mul-a
 mul-a c = search needs
 
--- src/lib.rt:132:26
 add-word : tie.Need-add-word
 add-word c = search needs
 
--- src/lib.rt:132:9
 word-requires : tie.Need-word-requires
 word-requires c κs = search needs
 
--- src/lib.rt:133:37
 add-word-2 : tie.Need-add-word-2
 add-word-2 c = search needs
 
--- src/lib.rt:133:24
 word-requires-2 : tie.Need-word-requires-2
 word-requires-2 c κs = search needs
 
--- src/lib.rt:133:9
 kind-of-requires : tie.Need-kind-of-requires
 kind-of-requires c κs = search needs
 
--- src/lib.rt:134:34
 add-word-3 : tie.Need-add-word-3
 add-word-3 c = search needs
 
--- src/lib.rt:134:21
 word-requires-3 : tie.Need-word-requires-3
 word-requires-3 c κs = search needs
 
--- src/lib.rt:134:55
 add-word-4 : tie.Need-add-word-4
 add-word-4 c = search needs
 
--- src/lib.rt:134:42
 word-requires-4 : tie.Need-word-requires-4
 word-requires-4 c κs = search needs
 
--- src/lib.rt:134:76
 add-word-5 : tie.Need-add-word-5
 add-word-5 c = search needs
 
--- src/lib.rt:134:63
 word-requires-5 : tie.Need-word-requires-5
 word-requires-5 c κs = search needs
 
--- src/lib.rt:135:25
 word-requires-6 : tie.Need-word-requires-6
 word-requires-6 c κs = search needs
 
--- src/lib.rt:135:5
 put-value-line-requires : tie.Need-put-value-line-requires
 put-value-line-requires c κs = (c .before .before .before .before .before .before .before .before .before .before .pre .0, c .before .before .before .before .before .kind-of .ensures .1, rw (value-here (c .before .before .before .before .before .before .before .before .before .before .args .values .now) (c .before .before .before .before .before .before .before .before .before .before .args .i) (c .before .before .before .before .before .before .before .word .ensures) (c .before .before .before .before .before .before .word2 .ensures) (c .before .before .before .before .before .kind-of .ensures .0) (c .before .before .before .before .word3 .ensures) (c .before .before .before .word4 .ensures) (c .before .before .word5 .ensures) (c .word6 .ensures)) (c .before .before .before .before .before .before .before .before .before .before .pre .2))
 
--- src/lib.rt:127:1
 same-length : tie.Need-same-length
 same-length c = search needs
 
--- src/lib.rt:127:1
 returns : tie.Need-returns
 returns c = wrote-as (ap (λ v. lineText (valueLine v)) (value-here (c .before .before .before .before .before .before .before .before .before .before .before .before .before .args .values .now) (c .before .before .before .before .before .before .before .before .before .before .before .before .before .args .i) (c .before .before .before .before .before .before .before .before .before .before .word .ensures) (c .before .before .before .before .before .before .before .before .before .word2 .ensures) (c .before .before .before .before .before .before .before .before .kind-of .ensures .0) (c .before .before .before .before .before .before .before .word3 .ensures) (c .before .before .before .before .before .before .word4 .ensures) (c .before .before .before .before .before .word5 .ensures) (c .before .before .before .word6 .ensures))) (c .before .before .put-value-line .ensures)
 

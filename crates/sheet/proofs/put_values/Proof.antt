@@ -2,16 +2,12 @@
 -- Assumes nothing.
 use Prim.Native.Nat.{_+_}
 use native.Mathlib.Omega.{arith}
-use mathlib.Core.Path.{_≡_, refl, ap}
-use Rattle.writers.proofs.Over.{Writing, last-room, same-long, wrote-as}
+use mathlib.Core.Path.{_≡_, refl}
+use Rattle.writers.proofs.Over.{Writing, last-room, same-long}
 use Rattle.sheet.proofs.Runs.{begun, write-room, write-fits, write-more, write-all}
 use Rattle.sheet.specs.Texts.{valuesText, valueText}
-use borrow.Author.Needs.{needs}
 use Rattle.sheet.proofs.put_values.Statement.{statement}
 use Rattle.sheet.proofs.put_values.Tie as tie
-use Rattle.sheet.proofs.put_values.Reads as reads
-use Rattle.sheet.proofs.put_values.Lts as lts
-use Rattle.sheet.proofs.put_value.Reads as put-value-reads
 
 abbrev Inv-loop : tie.InvT-loop
 Inv-loop buf₀ values from n t at₀ i₀ left₀ buf at i left = Writing (valuesText values from n) buf₀ (valuesText values i left) buf at × (i + left ≡ from + n)
@@ -19,51 +15,39 @@ Inv-loop buf₀ values from n t at₀ i₀ left₀ buf at i left = Writing (valu
 abbrev μ-loop : tie.MeasureT-loop
 μ-loop buf₀ values from n t at₀ i₀ left₀ buf at i left = left
 
--- src/lib.rt:194:5
 loop-holds : tie.Need-loop-holds Inv-loop μ-loop
 loop-holds c = (begun _ _ (c .before .before .pre .2), refl)
 
--- src/lib.rt:195:25
 sub-put-value : tie.Need-sub-put-value Inv-loop μ-loop
 sub-put-value c = omega (arith, last-room (c .before .loop .inv .0))
 
--- src/lib.rt:195:25
 part-put-value-start : tie.Need-part-put-value-start Inv-loop μ-loop
 part-put-value-start c = omega (arith, last-room (c .before .loop .inv .0))
 
--- src/lib.rt:195:25
 part-put-value-end : tie.Need-part-put-value-end Inv-loop μ-loop
 part-put-value-end c = omega (arith, last-room (c .before .loop .inv .0))
 
--- src/lib.rt:195:15
 put-value-requires : tie.Need-put-value-requires Inv-loop μ-loop
 put-value-requires c κs = (c .before .before .before .before .before .pre .0, omega (arith, c .before .before .loop .inv .1, c .before .loop-test .taken, c .before .before .before .before .before .pre .1), write-room (valueText (c .before .before .before .before .before .args .values .now)) (λ i. i + 1) (c .before .before .loop .i) (c .before .before .loop .left) (c .before .before .loop .inv .0) (c .before .loop-test .taken))
 
--- src/lib.rt:195:9
 add-at : tie.Need-add-at Inv-loop μ-loop
 add-at c = omega (arith, write-fits (valueText (c .before .before .before .before .before .before .before .before .args .values .now)) (λ i. i + 1) (c .before .before .before .before .before .loop .i) (c .before .before .before .before .before .loop .left) (c .before .before .before .before .before .loop .inv .0) (c .before .before .before .before .loop-test .taken) (c .before .before .put-value .ensures), same-long (c .before .before .before .before .before .loop .inv .0))
 
--- src/lib.rt:196:9
 add-i : tie.Need-add-i Inv-loop μ-loop
 add-i c = omega (arith, c .before .before .before .before .before .loop .inv .1, c .before .before .before .before .loop-test .taken, c .before .before .before .before .before .before .before .before .pre .1)
 
--- src/lib.rt:197:9
 sub-left : tie.Need-sub-left Inv-loop μ-loop
 sub-left c = omega (arith, c .before .before .before .before .loop-test .taken)
 
--- src/lib.rt:194:5
 loop-less : tie.Need-loop-less Inv-loop μ-loop
 loop-less c = omega (arith, c .before .before .before .before .loop-test .taken)
 
--- src/lib.rt:194:5
 loop-again : tie.Need-loop-again Inv-loop μ-loop
 loop-again c = (write-more (valueText (c .before .before .before .before .before .before .before .before .args .values .now)) (λ i. i + 1) (c .before .before .before .before .before .loop .i) (c .before .before .before .before .before .loop .left) (c .before .before .before .before .before .loop .inv .0) (c .before .before .before .before .loop-test .taken) (c .before .before .put-value .ensures), omega (arith, c .before .before .before .before .before .loop .inv .1, c .before .before .before .before .loop-test .taken))
 
--- src/lib.rt:187:1
 same-length : tie.Need-same-length Inv-loop μ-loop
 same-length c = same-long (c .before .loop .inv .0)
 
--- src/lib.rt:187:1
 returns : tie.Need-returns Inv-loop μ-loop
 returns c = write-all (valueText (c .before .before .before .before .args .values .now)) (λ i. i + 1) (c .before .loop .i) (c .before .loop .left) (c .before .loop .inv .0) (c .loop-test .left)
 

@@ -8,38 +8,25 @@ use Rattle.sheet.proofs.Rows.{row-here}
 use borrow.Author.Needs.{needs}
 use Rattle.sheet.proofs.row_size.Statement.{statement}
 use Rattle.sheet.proofs.row_size.Tie as tie
-use Rattle.sheet.proofs.row_size.Reads as reads
-use Rattle.sheet.proofs.row_size.Lts as lts
-use Rattle.sheet.proofs.marks_size.Reads as marks-size-reads
-use Rattle.sheet.proofs.place_size.Reads as place-size-reads
-use Rattle.sheet.proofs.values_size.Reads as values-size-reads
-use Rattle.sheet.proofs.word.Reads as word-reads
 
--- src/lib.rt:215:9
 word-requires : tie.Need-word-requires
 word-requires c κs = search needs
 
--- src/lib.rt:216:9
 place-size-requires : tie.Need-place-size-requires
 place-size-requires c κs = (c .before .before .before .before .before .pre .0, c .before .before .before .before .before .pre .1 .row)
 
--- src/lib.rt:217:9
 marks-size-requires : tie.Need-marks-size-requires
 marks-size-requires c κs = (c .before .before .before .before .before .before .pre .0, omega (arith, c .before .before .before .before .before .before .pre .1 .row, c .before .before .before .before .before .before .pre .1 .mark))
 
--- src/lib.rt:218:9
 values-size-requires : tie.Need-values-size-requires
 values-size-requires c κs = (c .before .before .before .before .before .before .before .pre .0, omega (arith, c .before .before .before .before .before .before .before .pre .1 .row, c .before .before .before .before .before .before .before .pre .1 .value))
 
--- src/lib.rt:219:5
 add-result : tie.Need-add-result
 add-result c = omega (arith, c .before .before .place-size .ensures .most, c .before .marks-size .ensures .most)
 
--- src/lib.rt:219:5
 add-result-2 : tie.Need-add-result-2
 add-result-2 c = omega (arith, c .before .before .place-size .ensures .most, c .before .marks-size .ensures .most, c .values-size .ensures .most)
 
--- src/lib.rt:204:1
 returns : tie.Need-returns
 returns c = sized _ (row-here (four (c .before .before .before .before .before .before .before .before .args .heads .now) (c .before .before .before .before .before .before .before .before .args .keys .now) (c .before .before .before .before .before .before .before .before .args .marks .now) (c .before .before .before .before .before .before .before .before .args .values .now)) (c .before .before .before .before .before .before .before .before .args .s) (c .before .before .before .word .ensures)) (simp length-append (omega (arith, c .before .before .place-size .ensures .size, c .before .marks-size .ensures .size, c .values-size .ensures .size))) (omega (arith, c .before .before .place-size .ensures .most, c .before .marks-size .ensures .most, c .values-size .ensures .most))
 

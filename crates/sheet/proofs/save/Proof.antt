@@ -4,37 +4,25 @@ use Rattle.sheet.proofs.Saved.{too-many, too-short, written}
 use borrow.Author.Needs.{needs}
 use Rattle.sheet.proofs.save.Statement.{statement}
 use Rattle.sheet.proofs.save.Tie as tie
-use Rattle.sheet.proofs.save.Reads as reads
-use Rattle.sheet.proofs.save.Lts as lts
-use Rattle.decimal.proofs.powers.Reads as powers-reads
-use Rattle.sheet.proofs.put_sheet.Reads as put-sheet-reads
-use Rattle.sheet.proofs.sheet_size.Reads as sheet-size-reads
 
--- src/lib.rt:361:9
 returns : tie.Need-returns
 returns c = too-many (c .before .before .before .before .before .before .args .heads .now) (c .before .before .before .before .before .before .args .keys .now) (c .before .before .before .before .before .before .args .marks .now) (c .before .before .before .before .before .before .args .values .now) (c .before .before .before .before .before .before .args .c) (c .before .before .before .before .before .before .args .seen) (c .before .before .before .before .before .before .args .buf .now) (c .if1 .taken)
 
--- src/lib.rt:363:13
 powers-requires : tie.Need-powers-requires
 powers-requires c κs = search needs
 
--- src/lib.rt:364:9
 sheet-size-requires : tie.Need-sheet-size-requires
 sheet-size-requires c κs = search needs
 
--- src/lib.rt:366:9
 returns-2 : tie.Need-returns-2
 returns-2 c = too-short (c .before .before .before .before .before .before .before .before .before .before .args .heads .now) (c .before .before .before .before .before .before .before .before .before .before .args .keys .now) (c .before .before .before .before .before .before .before .before .before .before .args .marks .now) (c .before .before .before .before .before .before .before .before .before .before .args .values .now) (c .before .before .before .before .before .before .before .before .before .before .args .c) (c .before .before .before .before .before .before .before .before .before .before .args .seen) (c .before .before .before .before .before .before .before .before .before .before .args .buf .now) (c .before .sheet-size .result) (c .before .sheet-size .ensures) (c .if2 .taken)
 
--- src/lib.rt:368:9
 put-sheet-requires : tie.Need-put-sheet-requires
 put-sheet-requires c κs = (c .before .before .before .before .before .powers .ensures, c .before .before .before .before .before .before .if1 .left, rw (c .before .before .before .sheet-size .ensures) at (c .before .before .if2 .left))
 
--- src/lib.rt:348:1
 same-length : tie.Need-same-length
 same-length c = search needs
 
--- src/lib.rt:348:1
 returns-3 : tie.Need-returns-3
 returns-3 c = written (c .before .before .before .before .before .before .before .before .before .before .before .before .before .before .before .args .heads .now) (c .before .before .before .before .before .before .before .before .before .before .before .before .before .before .before .args .keys .now) (c .before .before .before .before .before .before .before .before .before .before .before .before .before .before .before .args .marks .now) (c .before .before .before .before .before .before .before .before .before .before .before .before .before .before .before .args .values .now) (c .before .before .before .before .before .before .before .before .before .before .before .before .before .before .before .args .c) (c .before .before .before .before .before .before .before .before .before .before .before .before .before .before .before .args .seen) (c .before .before .before .before .before .before .before .before .before .before .before .before .before .before .before .args .buf .now) (c .before .before .put-sheet .result) (c .before .before .before .before .before .before .sheet-size .result) _ (c .before .before .before .before .before .before .sheet-size .ensures) (c .before .before .before .before .before .if2 .left) (c .before .before .put-sheet .ensures)
 

@@ -3,23 +3,17 @@
 use native.Mathlib.Omega.{arith}
 use borrow.Author.Tests.{eq-eqb, ne-eqb, lt-ltb, le-ltb}
 use Rattle.sheet.specs.Texts.{spotIn}
-use borrow.Author.Needs.{needs}
 use Rattle.sheet.proofs.spot_of.Statement.{statement}
 use Rattle.sheet.proofs.spot_of.Tie as tie
-use Rattle.sheet.proofs.spot_of.Reads as reads
-use Rattle.sheet.proofs.spot_of.Lts as lts
 
--- src/lib.rt:78:9
 returns : tie.Need-returns
 unfolding spotIn
 returns c = (rw (eq-eqb _ _ (c .if1 .taken)), tt)
 
--- src/lib.rt:81:9
 returns-2 : tie.Need-returns-2
 unfolding spotIn
 returns-2 c = (rw (ne-eqb _ _ (c .before .if1 .left), lt-ltb _ _ (c .if2 .taken)), omega arith)
 
--- src/lib.rt:74:1
 returns-3 : tie.Need-returns-3
 unfolding spotIn
 returns-3 c = (rw (ne-eqb _ _ (c .before .if1 .left), le-ltb _ _ (c .if2 .left)), omega arith)

@@ -6,22 +6,16 @@ use lib.ListN.{List·getD-eq-default}
 use borrow.Author.Needs.{needs}
 use Rattle.sheet.proofs.word.Statement.{statement}
 use Rattle.sheet.proofs.word.Tie as tie
-use Rattle.sheet.proofs.word.Reads as reads
-use Rattle.sheet.proofs.word.Lts as lts
 
--- src/lib.rt:39:22
 mul-result : tie.Need-mul-result
 mul-result c = search needs
 
--- src/lib.rt:39:22
 shared-slice-read-result : tie.Need-shared-slice-read-result
 shared-slice-read-result c = search needs
 
--- src/lib.rt:36:1
 returns : tie.Need-returns
 returns c = search needs
 
--- src/lib.rt:36:1
 returns-2 : tie.Need-returns-2
 returns-2 c = sym (List·getD-eq-default (c .before .args .t .now) 0 {n = c .before .args .i} (omega arith))
 
