@@ -1,0 +1,58 @@
+-- The small tests of a descent, case by case.
+-- Assumes nothing.
+use Prim.Native.Nat.{ℕ, _+_, _≤_, _<_}
+use mathlib.Core.Path.{_≡_, refl, sym}
+use mathlib.Core.Bool.{Bool, true, false, not, true≢false}
+use borrow.Author.Tests.{lt-ltb, le-ltb, eq-eqb, ne-eqb}
+use Rattle.readers.specs.Reads.{either}
+use Rattle.message.specs.declared.Deed.{Deed}
+use Rattle.tables.specs.declared.Want.{Want}
+use Rattle.apply.specs.Doing.{isDelete, isInsert, stringKind, mayMake, insertsHere, wantOf}
+
+module _ (len left : ℕ) (deed : Deed) where
+  pub make-never : 16 < len → false ≡ mayMake len left deed
+  unfolding mayMake
+  make-never h = rw (lt-ltb 16 len h)
+
+  pub make-going : len ≤ 16 → 0 < left → true ≡ mayMake len left deed
+  unfolding mayMake
+  make-going h g = rw (le-ltb 16 len h, lt-ltb 0 left g)
+
+  pub make-last : len ≤ 16 → left ≤ 0 → not (isDelete deed) ≡ mayMake len left deed
+  unfolding mayMake
+  make-last h g = rw (le-ltb 16 len h, le-ltb 0 left g)
+
+module _ (n hi lo len : ℕ) where
+  pub want-element : 16 < len → _≡_ {A = Want} (record { kind = 1; depth = n; hi = hi; lo = lo; len = len }) (wantOf n hi lo len)
+  unfolding wantOf
+  want-element h = rw (lt-ltb 16 len h)
+
+  pub want-key : len ≤ 16 → _≡_ {A = Want} (record { kind = 0; depth = n; hi = hi; lo = lo; len = len }) (wantOf n hi lo len)
+  unfolding wantOf
+  want-key h = rw (le-ltb 16 len h)
+
+pub kind-long : (n : ℕ) → 32 < n → 5 ≡ stringKind n
+unfolding stringKind
+kind-long n h = rw (lt-ltb 32 n h)
+
+pub kind-short : (n : ℕ) → n ≤ 32 → 5 + n ≡ stringKind n
+unfolding stringKind
+kind-short n h = rw (le-ltb 32 n h)
+
+pub inserts-last : (left : ℕ) (deed : Deed) → left ≡ 3 → isInsert deed ≡ insertsHere left deed
+unfolding insertsHere
+inserts-last left deed e = rw (eq-eqb left 3 e)
+
+pub inserts-not : (left : ℕ) (deed : Deed) → (left ≡ 3 → ⊥) → false ≡ insertsHere left deed
+unfolding insertsHere
+inserts-not left deed n = rw (ne-eqb left 3 n)
+
+-- one of two things, by a test
+module _ (P Q : Type 0) where
+  pub yes : (b : Bool) → b ≡ true → either b P Q → P
+  yes true e x = x
+  yes false e x = absurd (true≢false (sym e))
+
+  pub no : (b : Bool) → b ≡ false → either b P Q → Q
+  no true e x = absurd (true≢false e)
+  no false e x = x

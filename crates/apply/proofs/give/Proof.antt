@@ -1,0 +1,85 @@
+-- What an assign does at a row.
+use native.Mathlib.Omega.{arith}
+use mathlib.Core.Path.{ap}
+use lib.Dec.{eqb}
+use Rattle.apply.proofs.Giving.{give-plain, give-branch}
+use borrow.Author.Needs.{needs}
+use Rattle.apply.proofs.give.Statement.{statement}
+use Rattle.apply.proofs.give.Tie as tie
+
+branch-of-requires : tie.Need-branch-of-requires
+branch-of-requires c κs = search needs
+
+mark-row-requires : tie.Need-mark-row-requires
+mark-row-requires c κs = search needs
+
+drop-values-requires : tie.Need-drop-values-requires
+drop-values-requires c κs = search needs
+
+kind-of-requires : tie.Need-kind-of-requires
+kind-of-requires c κs = search needs
+
+parts-of-requires : tie.Need-parts-of-requires
+parts-of-requires c κs = search needs
+
+add-value-requires : tie.Need-add-value-requires
+add-value-requires c κs = search needs
+
+same-length : tie.Need-same-length
+same-length c = search needs
+
+same-length-2 : tie.Need-same-length-2
+same-length-2 c = search needs
+
+same-length-3 : tie.Need-same-length-3
+same-length-3 c = search needs
+
+returns : tie.Need-returns
+returns c =
+    give-plain _ _ _ _ _ _ _ _ _ _ _ _ _ _ _ _ _ _ _ _ (omega (arith, c .before .before .before .before .before .before .before .before .before .before .before .before .before .before .before .before .before .before .before .before .before .before .before .before .branch-of .ensures, c .before .before .before .before .before .before .before .before .before .before .before .before .before .before .before .before .before .before .before .before .before .before .before .if1 .taken)) (c .before .before .before .before .before .before .before .before .kind-of .ensures) (c .before .before .before .before .before .before .before .parts-of .ensures)
+    (c .before .before .before .before .before .before .before .before .before .before .before .before .before .before .before .before .before .before .before .before .mark-row .ensures) (c .before .before .before .before .before .before .before .before .before .before .before .before .before .drop-values .ensures) (c .before .before .before .before .add-value .ensures)
+
+clear-block-requires : tie.Need-clear-block-requires
+clear-block-requires c κs = search needs
+
+mark-row-requires-2 : tie.Need-mark-row-requires-2
+mark-row-requires-2 c κs = search needs
+
+flag-row-requires : tie.Need-flag-row-requires
+flag-row-requires c κs = search needs
+
+same-length-4 : tie.Need-same-length-4
+same-length-4 c = search needs
+
+same-length-5 : tie.Need-same-length-5
+same-length-5 c = search needs
+
+same-length-6 : tie.Need-same-length-6
+same-length-6 c = search needs
+
+returns-2 : tie.Need-returns-2
+returns-2 c =
+    give-branch _ _ _ _ _ _ _ _ _ _ _ _ _ _ _ _ _ _ (c .before .before .before .before .before .before .before .before .before .before .before .before .before .before .before .before .before .clear-block .ensures) (c .before .before .before .before .before .before .before .before .mark-row2 .ensures) (c .before .before .flag-row .ensures)
+    (λ e. omega (arith, e, c .before .before .before .before .before .before .before .before .before .before .before .before .before .before .before .before .before .before .before .before .before .before .branch-of .ensures, c .before .before .before .before .before .before .before .before .before .before .before .before .before .before .before .before .before .before .before .before .before .if1 .left)) (ap (λ n. eqb n 2) (c .before .before .before .before .before .before .before .before .before .before .before .before .before .before .before .before .before .before .before .before .before .before .branch-of .ensures))
+
+pub give-spec : {M : Type 1} → statement M
+give-spec =
+    tie.close
+    (tie.spec
+    branch-of-requires
+    mark-row-requires
+    drop-values-requires
+    kind-of-requires
+    parts-of-requires
+    add-value-requires
+    same-length
+    same-length-2
+    same-length-3
+    returns
+    clear-block-requires
+    mark-row-requires-2
+    flag-row-requires
+    same-length-4
+    same-length-5
+    same-length-6
+    returns-2)

@@ -1,0 +1,465 @@
+// Document 01, "What an operation does": an operation carried out on the tables, in place. The way is followed from the root down; what its
+// end says is done first, and each place on the way is marked on the way back, so that no step moves what a later one looks for.
+use meaning::Counters;
+use message::Deed;
+use readers::Given;
+use tables::Counts;
+use tables::Stop;
+use tables::Want;
+ghost use Prim.Native.Nat.{_+_};
+ghost use mathlib.Core.Path.{_≡_};
+ghost use mathlib.Core.List.{[], _∷_};
+ghost use Rattle.tables.specs.Holding.{four};
+ghost use Rattle.apply.specs.Doing.{isDelete, isInsert, givenIn, branchOf, stringKind, kindOf, partsOf, mayMake, insertsHere, wantOf};
+ghost use Rattle.apply.specs.Doing.{Passes, Leads, Seats, Gives, Finishes, Enters, Inserts, Descends};
+
+// What is done, and by which operation.
+pub struct Act {
+    pub id: u64,
+    pub deps: Counters,
+    pub deed: Deed,
+    pub words: [u64; 4],
+}
+
+// Where a new element comes, if its predecessor is there.
+struct Seat {
+    there: bool,
+    at: Stop,
+}
+
+// The row that a key leads to, if there is one now.
+pub struct Child {
+    pub there: bool,
+    pub at: Stop,
+    pub counts: Counts,
+}
+
+fn is_delete(deed: Deed) -> bool
+    ensures { λ r. ⌜ r ≡ isDelete deed ⌝ }
+{
+    match deed {
+        Deed::Assign(_) => false,
+        Deed::Insert(_) => false,
+        Deed::Delete => true,
+    }
+}
+
+fn is_insert(deed: Deed) -> bool
+    ensures { λ r. ⌜ r ≡ isInsert deed ⌝ }
+{
+    match deed {
+        Deed::Assign(_) => false,
+        Deed::Insert(_) => true,
+        Deed::Delete => false,
+    }
+}
+
+// What is assigned or inserted.
+fn given_in(deed: Deed) -> Given
+    ensures { λ r. ⌜ r ≡ givenIn deed ⌝ }
+{
+    match deed {
+        Deed::Assign(g) => g,
+        Deed::Insert(g) => g,
+        Deed::Delete => Given::Null,
+    }
+}
+
+// A plain value (0), an empty map (1) or an empty list (2).
+fn branch_of(g: Given) -> u64
+    ensures { λ r. ⌜ r ≡ branchOf g ⌝ }
+{
+    match g {
+        Given::Null => 0,
+        Given::True => 0,
+        Given::False => 0,
+        Given::NonNeg(_) => 0,
+        Given::Neg(_) => 0,
+        Given::String(_) => 0,
+        Given::Map => 1,
+        Given::List => 2,
+    }
+}
+
+fn string_kind(n: u64) -> u64
+    ensures { λ r. ⌜ r ≡ stringKind n ⌝ }
+{
+    if n > 32 {
+        return 5;
+    }
+    5 + n
+}
+
+// The number of a plain value's kind; a string's tells its length.
+fn kind_of(g: Given) -> u64
+    ensures { λ r. ⌜ r ≡ kindOf g ⌝ }
+{
+    match g {
+        Given::Null => 0,
+        Given::True => 1,
+        Given::False => 2,
+        Given::NonNeg(_) => 3,
+        Given::Neg(_) => 4,
+        Given::String(n) => string_kind(n),
+        Given::Map => 0,
+        Given::List => 0,
+    }
+}
+
+fn one_word(n: u64) -> [u64; 4]
+    ensures { λ r. ⌜ r ≡ n ∷ 0 ∷ 0 ∷ 0 ∷ [] ⌝ }
+{
+    [n, 0, 0, 0]
+}
+
+// A plain value's words, of which a string's were read with it.
+fn parts_of(g: Given, words: [u64; 4]) -> [u64; 4]
+    ensures { λ r. ⌜ r ≡ partsOf g words ⌝ }
+{
+    match g {
+        Given::Null => words,
+        Given::True => words,
+        Given::False => words,
+        Given::NonNeg(n) => one_word(n),
+        Given::Neg(n) => one_word(n),
+        Given::String(_) => words,
+        Given::Map => words,
+        Given::List => words,
+    }
+}
+
+// Whether an unknown place is made: it has a key, and isn't the target of a delete.
+fn may_make(len: u64, left: usize, deed: Deed) -> bool
+    ensures { λ r. ⌜ r ≡ mayMake len left deed ⌝ }
+{
+    if len > 16 {
+        return false;
+    }
+    if left > 0 {
+        return true;
+    }
+    !is_delete(deed)
+}
+
+// The search for a key of the way among rows of depth n.
+fn want_of(n: u64, hi: u64, lo: u64, len: u64) -> Want
+    ensures { λ r. ⌜ r ≡ wantOf n hi lo len ⌝ }
+{
+    if len > 16 {
+        return Want {
+            kind: 1,
+            depth: n,
+            hi,
+            lo,
+            len,
+        };
+    }
+    Want {
+        kind: 0,
+        depth: n,
+        hi,
+        lo,
+        len,
+    }
+}
+
+// The place behind a row.
+fn past(heads: &[u64], s: Stop) -> Stop
+    ensures { λ r. ⌜ Passes (now (heads .entry)) s r ⌝ }
+{
+    let row = s.row;
+    if row >= heads.len() {
+        return s;
+    }
+    if s.row > 1024 {
+        return s;
+    }
+    if s.mark > 2048 {
+        return s;
+    }
+    if s.value > 2048 {
+        return s;
+    }
+    let h = heads[row];
+    Stop {
+        row: row + 1,
+        mark: s.mark + (h / 128 % 2048) as usize,
+        value: s.value + (h / 262144 % 512) as usize,
+    }
+}
+
+// The row that is looked for, made if it isn't there and may be.
+fn lead(heads: &mut [u64], keys: &mut [u64], c: Counts, from: Stop, w: Want, make: bool) -> Child
+    ensures { λ r. ⌜ Leads w make c from (now (heads .entry)) (now (keys .entry)) (now (heads .exit)) (now (keys .exit)) r ⌝ }
+{
+    let rows = c.rows;
+    let at = tables::find(heads, keys, rows, from, w);
+    let row = at.row;
+    if tables::known(heads, keys, rows, row, w) {
+        return Child {
+            there: true,
+            at,
+            counts: c,
+        };
+    }
+    if make {
+        let counts = steps::open_row(heads, keys, c, row, w.depth, 0, w.hi, w.lo, w.len);
+        return Child {
+            there: true,
+            at,
+            counts,
+        };
+    }
+    Child {
+        there: false,
+        at,
+        counts: c,
+    }
+}
+
+// The row of a key of the way, among rows of depth n; `left` words of the way are left behind the key.
+fn reach(
+    heads: &mut [u64],
+    keys: &mut [u64],
+    c: Counts,
+    from: Stop,
+    n: u64,
+    hi: u64,
+    lo: u64,
+    len: u64,
+    left: usize,
+    deed: Deed,
+) -> Child
+    ensures { λ r. ⌜ Leads (wantOf n hi lo len) (mayMake len left deed) c from (now (heads .entry)) (now (keys .entry)) (now (heads .exit))
+        (now (keys .exit)) r ⌝ }
+{
+    let w = want_of(n, hi, lo, len);
+    let make = may_make(len, left, deed);
+    lead(heads, keys, c, from, w, make)
+}
+
+// Assigns at a row: a plain value takes the place of those that deps cover; an empty map or list clears the place.
+fn give(
+    heads: &mut [u64],
+    marks: &mut [u64],
+    values: &mut [u64],
+    c: Counts,
+    s: Stop,
+    id: u64,
+    deps: Counters,
+    g: Given,
+    words: [u64; 4],
+) -> Counts
+    ensures { λ e. ⌜ Gives id (deps .at) g words s c (now (heads .entry)) (now (marks .entry)) (now (values .entry)) e (now (heads .exit))
+        (now (marks .exit)) (now (values .exit)) ⌝ }
+{
+    let branch = branch_of(g);
+    if branch == 0 {
+        let a = steps::mark_row(heads, marks, c, s, id);
+        let b = steps::drop_values(heads, values, a, s, deps);
+        let kind = kind_of(g);
+        let parts = parts_of(g, words);
+        return steps::add_value(heads, values, b, s, id, kind, parts);
+    }
+    let row = s.row;
+    let a = clear::clear_block(heads, marks, values, c, s, deps);
+    let b = steps::mark_row(heads, marks, a, s, id);
+    steps::flag_row(heads, row, branch == 2);
+    b
+}
+
+// What the way's end says: an assign or a delete, at a row.
+fn finish(
+    heads: &mut [u64],
+    marks: &mut [u64],
+    values: &mut [u64],
+    c: Counts,
+    s: Stop,
+    o: Act,
+) -> Counts
+    ensures { λ e. ⌜ Finishes o s c (now (heads .entry)) (now (marks .entry)) (now (values .entry)) e (now (heads .exit)) (now (marks .exit))
+        (now (values .exit)) ⌝ }
+{
+    let deed = o.deed;
+    let deps = o.deps;
+    if is_delete(deed) {
+        return clear::clear_block(heads, marks, values, c, s, deps);
+    }
+    let words = o.words;
+    give(
+        heads,
+        marks,
+        values,
+        c,
+        s,
+        o.id,
+        deps,
+        given_in(deed),
+        words,
+    )
+}
+
+// A place that the way goes on from: it is marked, unless the operation deletes, and its branch has its flag.
+fn enter(heads: &mut [u64], marks: &mut [u64], c: Counts, s: Stop, o: Act, list: bool) -> Counts
+    ensures { λ e. ⌜ Enters o list s c (now (heads .entry)) (now (marks .entry)) e (now (heads .exit)) (now (marks .exit)) ⌝ }
+{
+    let row = s.row;
+    let deed = o.deed;
+    if is_delete(deed) {
+        steps::flag_row(heads, row, list);
+        return c;
+    }
+    let e = steps::mark_row(heads, marks, c, s, o.id);
+    steps::flag_row(heads, row, list);
+    e
+}
+
+// Where the element with this id comes: behind the head or its predecessor, and on over elements with greater ids.
+fn find_seat(
+    heads: &[u64],
+    keys: &[u64],
+    rows: usize,
+    from: Stop,
+    n: u64,
+    hi: u64,
+    len: u64,
+    id: u64,
+) -> Seat
+    ensures { λ r. ⌜ Seats n hi len id rows from (now (heads .entry)) (now (keys .entry)) r ⌝ }
+{
+    if len == 18 {
+        let at = tables::find(
+            heads,
+            keys,
+            rows,
+            from,
+            Want {
+                kind: 3,
+                depth: n,
+                hi: id,
+                lo: 0,
+                len: 17,
+            },
+        );
+        return Seat { there: true, at };
+    }
+    let w = Want {
+        kind: 1,
+        depth: n,
+        hi,
+        lo: 0,
+        len: 17,
+    };
+    let t = tables::find(heads, keys, rows, from, w);
+    let row = t.row;
+    if !tables::known(heads, keys, rows, row, w) {
+        return Seat {
+            there: false,
+            at: t,
+        };
+    }
+    let p = past(heads, t);
+    let at = tables::find(
+        heads,
+        keys,
+        rows,
+        p,
+        Want {
+            kind: 2,
+            depth: n,
+            hi: id,
+            lo: 0,
+            len: 17,
+        },
+    );
+    Seat { there: true, at }
+}
+
+// Puts a new element in, if its predecessor is there, and assigns its value.
+fn put_element(
+    heads: &mut [u64],
+    keys: &mut [u64],
+    marks: &mut [u64],
+    values: &mut [u64],
+    c: Counts,
+    from: Stop,
+    n: u64,
+    hi: u64,
+    len: u64,
+    o: Act,
+) -> Counts
+    ensures { λ e. ⌜ Inserts o n hi len from c (four (now (heads .entry)) (now (keys .entry)) (now (marks .entry)) (now (values .entry))) e
+        (four (now (heads .exit)) (now (keys .exit)) (now (marks .exit)) (now (values .exit))) ⌝ }
+{
+    let deed = o.deed;
+    let deps = o.deps;
+    let words = o.words;
+    let id = o.id;
+    let s = find_seat(heads, keys, c.rows, from, n, hi, len, id);
+    if !s.there {
+        return c;
+    }
+    let at = s.at;
+    let row = at.row;
+    let e = steps::open_row(heads, keys, c, row, n, 1, id, 0, 17);
+    give(heads, marks, values, e, at, id, deps, given_in(deed), words)
+}
+
+// Whether the way's last key is the predecessor of a new element.
+fn inserts_here(left: usize, deed: Deed) -> bool
+    ensures { λ r. ⌜ r ≡ insertsHere left deed ⌝ }
+{
+    if left == 3 {
+        return is_insert(deed);
+    }
+    false
+}
+
+// Follows the way among the rows behind a place, whose children have depth n: to the row of its first key, and from there along the
+// remaining keys.
+pub fn descend(
+    heads: &mut [u64],
+    keys: &mut [u64],
+    marks: &mut [u64],
+    values: &mut [u64],
+    c: Counts,
+    from: Stop,
+    n: u64,
+    o: Act,
+    way: &[u64],
+) -> Counts
+    ensures { λ e. ⌜ Descends o n (now (way .entry)) from c
+        (four (now (heads .entry)) (now (keys .entry)) (now (marks .entry)) (now (values .entry))) e
+        (four (now (heads .exit)) (now (keys .exit)) (now (marks .exit)) (now (values .exit))) ⌝ }
+{
+    let left = way.len();
+    if left < 3 {
+        return c;
+    }
+    if n > 8 {
+        return c;
+    }
+    let hi = way[0];
+    let lo = way[1];
+    let len = way[2];
+    let deed = o.deed;
+    if inserts_here(left, deed) {
+        return put_element(heads, keys, marks, values, c, from, n, hi, len, o);
+    }
+    let x = reach(heads, keys, c, from, n, hi, lo, len, left - 3, deed);
+    if !x.there {
+        return c;
+    }
+    let at = x.at;
+    let counts = x.counts;
+    if left == 3 {
+        return finish(heads, marks, values, counts, at, o);
+    }
+    if left < 6 {
+        return counts;
+    }
+    let third = way[5];
+    let p = past(heads, at);
+    let e = descend(heads, keys, marks, values, counts, p, n + 1, o, &way[3..]);
+    enter(heads, marks, e, at, o, third > 16)
+}

@@ -1,0 +1,247 @@
+-- Of tables that hold a document's rows, the text is the document's sheet: `sheet-is`.
+-- Assumes nothing.
+use Prim.Native.Nat.{ℕ, _+_, _*_, _-_, _≤_}
+use native.Mathlib.Omega.{arith}
+use mathlib.Core.Path.{_≡_, refl, sym, ap, ap₂, _∙_, subst}
+use mathlib.Core.Bool.{Bool, true, false}
+use mathlib.Core.List.{List, [], _∷_, _++_, append-assoc, map}
+use borrow.Author.Tests.{le-ltb, ne-eqb}
+use lib.Dec.{eqb}
+use lib.IntN.{pos, negsuc}
+use lib.ListN.{length, getD, drop, replicate, length-append}
+use lib.Seq.{getD-drop, drop-drop, drop-at}
+use Rattle.meaning.specs.Places.{Plain, null, bool, integer, string, Value, Document}
+use Rattle.meaning.specs.Members.{All}
+use Rattle.meaning.specs.Valid.{ValidPlain}
+use Rattle.meaning.specs.Load.{marksIn, valuesIn}
+use Rattle.meaning.specs.Sheet.{Spot, inMap, inList, Row, rowsOf, Line, placeLine, markLine, valueLine, endLine, lineText, linesText}
+use Rattle.meaning.specs.Sheet.{rowLines, rowsLines, sheetLines, sheet}
+use Rattle.theorems.specs.Accepting.{marks-append, values-append}
+use Rattle.readers.specs.Words.{pack, wordsOf}
+use Rattle.writers.specs.declared.Kind.the-variants.{String}
+use Rattle.writers.proofs.Over.{append-none}
+use Rattle.lines.specs.Rows.{valueOf}
+use Rattle.lines.specs.Spots.{spotOf}
+use Rattle.lines.proofs.Words.{key-back, string-back}
+use Rattle.tables.specs.Words.{bit, side, headWord, mapIn, listIn, spotWords, valueWords, eachValue, marksOf, valuesOf}
+use Rattle.tables.specs.Seek.{three, further}
+use Rattle.tables.specs.Finds.{GoodSpot, Narrow, AllNarrow, bit-small, side-small, depth-in, side-in, marks-in, values-in, after}
+use Rattle.tables.specs.Standing.{first, behind}
+use Rattle.tables.specs.Holding.{marksRoom, valuesRoom, Holds, four}
+use Rattle.tables.specs.Parts.{At, at-behind, behind-at, holds-narrow, all-narrow-right}
+use Rattle.tables.specs.Parts.{plain-six, marks-length, values-length, marks-parts, values-parts}
+use Rattle.tables.specs.Stands.{head-at, key-at}
+use Rattle.tables.specs.declared.Counts.{Counts}
+use Rattle.tables.specs.declared.Stop.{Stop}
+use Rattle.sheet.specs.Texts.{kindIn, spotIn, placeText, valueAt, valueText, markText, texts}
+use Rattle.sheet.specs.Texts.{marksText, valuesText, headAt, rowText, rowsText, sheetText}
+use Rattle.sheet.specs.Saving.{ValidRow}
+use Rattle.sheet.proofs.Rows.{row-text}
+
+lines-append : (a b : List Line) → linesText (a ++ b) ≡ linesText a ++ linesText b
+unfolding linesText
+lines-append [] b = refl
+lines-append (l ∷ a) b = ap (lineText l ++_) (lines-append a b) ∙ sym (append-assoc (lineText l) (linesText a) (linesText b))
+
+one-line : (l : Line) → linesText (l ∷ []) ≡ lineText l
+unfolding linesText
+one-line l = append-none (lineText l)
+
+-- Texts one behind the other are the lines of things, if each stands where its text is taken from.
+module _ {S A : Type 0} (piece : S → List ℕ) (on : S → S) (lines : A → List Line) (many : List A → List Line)
+    (Stands : S → List A → Type 0) where
+  all-lines : many [] ≡ [] → ((a : A) (xs : List A) → many (a ∷ xs) ≡ lines a ++ many xs)
+      → ((s : S) (a : A) (xs : List A) → Stands s (a ∷ xs) → (piece s ≡ linesText (lines a)) × Stands (on s) xs)
+      → (s : S) (xs : List A) → Stands s xs → texts piece on s (length xs) ≡ linesText (many xs)
+  unfolding texts linesText
+  all-lines e f step s [] h = ap linesText (sym e)
+  all-lines e f step s (a ∷ xs) h =
+      let x = step s a xs h in
+      ap₂ (λ t u. t ++ u) (x .0) (all-lines e f step (on s) xs (x .1))
+      ∙ (sym (lines-append (lines a) (many xs)) ∙ ap linesText (sym (f a xs)))
+
+-- what stands at a place of a table
+at-place : (table rest : List ℕ) (i j : ℕ) → drop i table ≡ rest → getD table (i + j) 0 ≡ getD rest j 0
+at-place table rest i j h = sym (getD-drop i table j 0) ∙ ap (λ l. getD l j 0) h
+
+at-first : (table rest : List ℕ) (i : ℕ) → drop i table ≡ rest → getD table i 0 ≡ getD rest 0 0
+at-first table rest i h = let e : i ≡ i + 0 = omega arith in ap (λ j. getD table j 0) e ∙ at-place table rest i 0 h
+
+-- Marks.
+module _ (table later : List ℕ) where
+  marks-lines : (i : ℕ) (ms : List ℕ) → drop i table ≡ ms ++ later → marksText table i (length ms) ≡ linesText (map markLine ms)
+  marks-lines =
+      all-lines (markText table) (λ i. i + 1) (λ m. markLine m ∷ []) (map markLine) (λ i ms. drop i table ≡ ms ++ later) refl (λ m ms. refl)
+      (λ i m ms h. (
+        ap (λ m. lineText (markLine m)) (at-first table (m ∷ (ms ++ later)) i h) ∙ sym (one-line (markLine m)),
+        sym (drop-drop 1 i table) ∙ ap (drop 1) h,
+      ))
+
+-- Values.
+string-kind : (n m : ℕ) → n ≤ 32 → kindIn (5 + n) m ≡ String n
+unfolding kindIn
+string-kind n m h =
+    let a : 5 + n ≡ 1 → ⊥ = λ e. omega arith in
+    let b : 5 + n ≡ 2 → ⊥ = λ e. omega arith in
+    let d : 5 + n ≡ 3 → ⊥ = λ e. omega arith in
+    let f : 5 + n ≡ 4 → ⊥ = λ e. omega arith in
+    let l : 5 + n - 5 ≡ n = omega arith in
+    rw (
+      ne-eqb (5 + n) 1 a,
+      ne-eqb (5 + n) 2 b,
+      ne-eqb (5 + n) 3 d,
+      ne-eqb (5 + n) 4 f,
+      le-ltb (5 + n) 5 (omega arith),
+      le-ltb 37 (5 + n) (omega arith),
+      l,
+    )
+
+-- the value that six words hold
+abbrev held : List ℕ → Value
+held w =
+    valueOf (getD w 0 0) (kindIn (getD w 1 0) (getD w 2 0)) (getD w 2 0 ∷ getD w 3 0 ∷ getD w 4 0 ∷ getD w 5 0 ∷ [])
+
+held-back : (id : ℕ) (x : Plain) (rest : List ℕ) → ValidPlain x
+    → held (valueWords (record { id = id; val = x }) ++ rest) ≡ record { id = id; val = x }
+unfolding kindIn wordsOf
+held-back id null rest h = refl
+held-back id (bool true) rest h = refl
+held-back id (bool false) rest h = refl
+held-back id (integer (pos n)) rest h = rw (le-ltb 9223372036854775807 n h)
+held-back id (integer (negsuc n)) rest h = rw (le-ltb 9223372036854775807 n h)
+held-back id (string b) rest h =
+    ap (λ k. valueOf id k (wordsOf 4 b)) (string-kind (length b) (pack 8 b) (h .short))
+    ∙ ap (λ l. record { id = id; val = string l }) (string-back b h)
+
+module _ (table later : List ℕ) where
+  value-held : (i : ℕ) (rest : List ℕ) → drop (6 * i) table ≡ rest → valueAt table i ≡ held rest
+  unfolding valueAt
+  value-held i rest h =
+      let p : (j : ℕ) → getD table (6 * i + j) 0 ≡ getD rest j 0 = λ j. at-place table rest (6 * i) j h in
+      rw (at-first table rest (6 * i) h, p 1, p 2, p 3, p 4, p 5)
+
+  Valued : ℕ → List Value → Type 0
+  Valued i vs = (drop (6 * i) table ≡ eachValue vs ++ later) × All (λ v. ValidPlain (v .val)) vs
+
+  values-lines : (i : ℕ) (vs : List Value) → Valued i vs → valuesText table i (length vs) ≡ linesText (map valueLine vs)
+  unfolding Valued eachValue
+  values-lines =
+      all-lines (valueText table) (λ i. i + 1) (λ v. valueLine v ∷ []) (map valueLine) Valued refl (λ v vs. refl)
+      (λ i v vs h.
+      let e = h .0 ∙ append-assoc (valueWords v) (eachValue vs) later in
+      let f : 6 * i + 6 ≡ 6 * (i + 1) = omega arith in (
+        ap (λ v. lineText (valueLine v)) (value-held i _ e ∙ held-back (v .id) (v .val) (eachValue vs ++ later) (h .1 .0))
+            ∙ sym (one-line (valueLine v)),
+        (
+          ap (λ n. drop n table) (sym f) ∙ (sym (drop-drop 6 (6 * i) table)
+              ∙ (ap (drop 6) e ∙ drop-at (valueWords v) (eachValue vs ++ later) 6 (omega (arith, plain-six (v .val))))),
+          h .1 .1,
+        ),
+      ))
+
+-- Places.
+map-in : (r : Row) → Narrow r → mapIn (headWord r) ≡ bit (r .map)
+map-in r n = omega (arith, n .depth, side-small (r .spot), bit-small (r .map))
+
+list-in : (r : Row) → Narrow r → listIn (headWord r) ≡ bit (r .list)
+list-in r n = omega (arith, n .depth, side-small (r .spot), bit-small (r .map), bit-small (r .list))
+
+bit-back : (b : Bool) → eqb (bit b) 1 ≡ b
+bit-back true = refl
+bit-back false = refl
+
+spot-back : (p : Spot) → GoodSpot p → spotOf (spotIn (side p) (three (spotWords p))) ≡ p
+unfolding spotIn
+spot-back (inMap k) g = rw (le-ltb 16 (length k) (g .short)) (ap inMap (key-back k g))
+spot-back (inList i) g = refl
+
+-- A row of the tables, and all of them.
+module _ (h k m v : List ℕ) (c : Counts) where
+  -- the rows B stand behind some others, from the place s on
+  record Standing (s : Stop) (B : List Row) : Type 0 where
+    ahead : List Row
+    holds : Holds (four h k m v) c (ahead ++ B)
+    here : s ≡ behind ahead
+    valid : All ValidRow B
+
+  module _ (s : Stop) (r : Row) (R : List Row) (st : Standing s (r ∷ R)) where
+    abbrev A : List Row
+    A = st .ahead
+
+    narrow : Narrow r
+    unfolding AllNarrow
+    narrow = all-narrow-right A (r ∷ R) (holds-narrow (four h k m v) c (A ++ r ∷ R) (st .holds)) .0
+
+    at : At s A
+    at = at-behind s A (st .here)
+
+    head-is : headAt (four h k m v) s ≡ headWord r
+    head-is = ap (λ i. getD h i 0) (at .row) ∙ head-at h k m v c A R r (st .holds)
+
+    place-is : placeText (headWord r) k (s .row) ≡ lineText (placeLine (r .depth) (r .spot) (r .map) (r .list))
+    unfolding placeText
+    place-is =
+        rw (
+          at .row,
+          key-at h k m v c A R r (st .holds),
+          depth-in r narrow,
+          side-in r narrow,
+          map-in r narrow,
+          list-in r narrow,
+          bit-back (r .map),
+          bit-back (r .list),
+          spot-back (r .spot) (narrow .spot),
+        )
+
+    marks-are : marksText m (s .mark) (length (r .marks)) ≡ linesText (map markLine (r .marks))
+    marks-are =
+        let z : List ℕ = replicate (marksRoom - length (marksOf (A ++ r ∷ R))) 0 in
+        marks-lines m (marksOf R ++ z) (s .mark) (r .marks)
+        (ap (drop (s .mark)) (st .holds .marks ∙ marks-parts A r R z)
+        ∙ drop-at (marksOf A) (r .marks ++ (marksOf R ++ z)) (s .mark) (omega (arith, marks-length A, at .mark)))
+
+    values-are : valuesText v (s .value) (length (r .values)) ≡ linesText (map valueLine (r .values))
+    unfolding Valued
+    values-are =
+        let z : List ℕ = replicate (valuesRoom - length (valuesOf (A ++ r ∷ R))) 0 in
+        values-lines v (valuesOf R ++ z) (s .value) (r .values) (
+          ap (drop (6 * s .value)) (st .holds .values ∙ values-parts A r R z)
+              ∙ drop-at (valuesOf A) (eachValue (r .values) ++ (valuesOf R ++ z)) (6 * s .value)
+              (omega (arith, values-length A, at .value)),
+          st .valid .0,
+        )
+
+    row-is : rowText (four h k m v) s ≡ linesText (rowLines r)
+    unfolding rowLines linesText
+    row-is =
+        row-text (four h k m v) s
+        ∙ (rw (head-is, place-is, marks-in r narrow, values-in r narrow, marks-are, values-are)
+        (ap (lineText (placeLine (r .depth) (r .spot) (r .map) (r .list)) ++_)
+        (sym (lines-append (map markLine (r .marks)) (map valueLine (r .values))))))
+
+    stands-on : Standing (further s (headAt (four h k m v) s)) R
+    unfolding marksIn valuesIn
+    stands-on = record {
+      ahead = A ++ (r ∷ []);
+      holds = subst (Holds (four h k m v) c) (sym (append-assoc A (r ∷ []) R)) (st .holds);
+      here = behind-at _ (A ++ (r ∷ [])) (rw head-is (record {
+        row = omega (arith, at .row, length-append A (r ∷ []));
+        mark = omega (arith, at .mark, marks-in r narrow, marks-append A (r ∷ []));
+        value = omega (arith, at .value, values-in r narrow, values-append A (r ∷ []));
+      }));
+      valid = st .valid .1;
+    }
+
+  rows-are : (s : Stop) (B : List Row) → Standing s B → rowsText (four h k m v) s (length B) ≡ linesText (rowsLines B)
+  unfolding rowsLines
+  rows-are =
+      all-lines (rowText (four h k m v)) (λ s. further s (headAt (four h k m v) s)) rowLines rowsLines Standing refl (λ r R. refl)
+      (λ s r R st. (row-is s r R st, stands-on s r R st))
+
+  pub sheet-is : (D : Document) → Holds (four h k m v) c (rowsOf D) → All ValidRow (rowsOf D)
+      → sheetText (four h k m v) (c .rows) (D .seen) ≡ sheet D
+  unfolding sheetText sheet sheetLines linesText after
+  sheet-is D H valid =
+      let e = endLine (length (rowsOf D)) in
+      let st : Standing first (rowsOf D) = record { ahead = []; holds = H; here = refl; valid = valid } in
+      rw (H .rows-are, rows-are first (rowsOf D) st, lines-append (rowsLines (rowsOf D)) (e ∷ []), one-line e)

@@ -1,0 +1,60 @@
+-- `sheet::marks_size` meets its contract. The loop's invariant: what is counted, and what is still to come.
+-- Assumes nothing.
+use Prim.Native.Nat.{_+_, _*_}
+use native.Mathlib.Omega.{arith}
+use mathlib.Core.Path.{_≡_, refl, ap}
+use Rattle.sheet.proofs.Runs.{sized-as, Summing, sum-begun, sum-more, sum-all}
+use Rattle.sheet.specs.Texts.{marksText, markText}
+use Rattle.meaning.specs.Sheet.{lineText, markLine}
+use borrow.Author.Needs.{needs}
+use Rattle.sheet.proofs.marks_size.Statement.{statement}
+use Rattle.sheet.proofs.marks_size.Tie as tie
+
+abbrev Inv-loop : tie.InvT-loop
+Inv-loop marks from n t sum₀ i₀ left₀ sum i left = Summing (marksText marks from n) (marksText marks i left) 47 left (47 * n) sum × (i + left ≡ from + n)
+
+abbrev μ-loop : tie.MeasureT-loop
+μ-loop marks from n t sum₀ i₀ left₀ sum i left = left
+
+loop-holds : tie.Need-loop-holds Inv-loop μ-loop
+loop-holds c = (sum-begun (markText (c .before .args .marks .now)) (λ i. i + 1) (c .before .args .from) (c .before .args .n) 47, refl)
+
+word-requires : tie.Need-word-requires Inv-loop μ-loop
+word-requires c κs = search needs
+
+mark-line-size-requires : tie.Need-mark-line-size-requires Inv-loop μ-loop
+mark-line-size-requires c κs = c .before .before .before .before .pre .0
+
+add-sum : tie.Need-add-sum Inv-loop μ-loop
+add-sum c = omega (arith, c .mark-line-size .ensures .most, c .before .before .before .loop .inv .0 .most, c .before .before .loop-test .taken, c .before .before .before .before .before .pre .1)
+
+add-i : tie.Need-add-i Inv-loop μ-loop
+add-i c = omega (arith, c .before .before .before .loop .inv .1, c .before .before .loop-test .taken, c .before .before .before .before .before .pre .1)
+
+sub-left : tie.Need-sub-left Inv-loop μ-loop
+sub-left c = omega (arith, c .before .before .loop-test .taken)
+
+loop-less : tie.Need-loop-less Inv-loop μ-loop
+loop-less c = omega (arith, c .before .before .loop-test .taken)
+
+loop-again : tie.Need-loop-again Inv-loop μ-loop
+loop-again c = (sum-more (markText (c .before .before .before .before .before .args .marks .now)) (λ i. i + 1) (c .before .before .before .loop .i) (c .before .before .before .loop .left) (c .before .before .loop-test .taken) (c .before .before .before .loop .inv .0) (sized-as (ap (λ i. lineText (markLine i)) (c .before .word .ensures)) (c .mark-line-size .ensures)), omega (arith, c .before .before .before .loop .inv .1, c .before .before .loop-test .taken))
+
+returns : tie.Need-returns Inv-loop μ-loop
+returns c = sum-all (markText (c .before .before .before .args .marks .now)) (λ i. i + 1) (c .before .loop .i) (c .before .loop .left) (c .loop-test .left) (c .before .loop .inv .0)
+
+pub marks-size-spec : {M : Type 1} → statement M
+marks-size-spec =
+    tie.close
+    (tie.spec
+    Inv-loop
+    μ-loop
+    loop-holds
+    word-requires
+    mark-line-size-requires
+    add-sum
+    add-i
+    sub-left
+    loop-less
+    loop-again
+    returns)

@@ -1,0 +1,60 @@
+-- `sheet::put_place` meets its contract.
+-- Assumes nothing.
+use Rattle.writers.proofs.Over.{wrote-as}
+use Rattle.sheet.proofs.Rows.{place-here}
+use borrow.Author.Needs.{needs}
+use Rattle.sheet.proofs.put_place.Statement.{statement}
+use Rattle.sheet.proofs.put_place.Tie as tie
+
+mul-word : tie.Need-mul-word
+mul-word c = search needs
+
+word-requires : tie.Need-word-requires
+word-requires c κs = search needs
+
+mul-word-2 : tie.Need-mul-word-2
+mul-word-2 c = search needs
+
+add-word : tie.Need-add-word
+add-word c = search needs
+
+word-requires-2 : tie.Need-word-requires-2
+word-requires-2 c κs = search needs
+
+mul-word-3 : tie.Need-mul-word-3
+mul-word-3 c = search needs
+
+add-word-2 : tie.Need-add-word-2
+add-word-2 c = search needs
+
+word-requires-3 : tie.Need-word-requires-3
+word-requires-3 c κs = search needs
+
+spot-of-requires : tie.Need-spot-of-requires
+spot-of-requires c κs = search needs
+
+put-place-line-requires : tie.Need-put-place-line-requires
+put-place-line-requires c κs = (c .before .before .before .before .before .before .before .pre .0, c .before .spot-of .ensures .1, rw (place-here (c .before .before .before .before .before .before .before .args .h) (c .before .before .before .before .before .before .before .args .keys .now) (c .before .before .before .before .before .before .before .args .row) (c .before .before .before .before .word .ensures) (c .before .before .before .word2 .ensures) (c .before .before .word3 .ensures) (c .before .spot-of .ensures .0)) (c .before .before .before .before .before .before .before .pre .2))
+
+same-length : tie.Need-same-length
+same-length c = search needs
+
+returns : tie.Need-returns
+returns c = wrote-as (place-here (c .before .before .before .before .before .before .before .before .before .before .args .h) (c .before .before .before .before .before .before .before .before .before .before .args .keys .now) (c .before .before .before .before .before .before .before .before .before .before .args .row) (c .before .before .before .before .before .before .before .word .ensures) (c .before .before .before .before .before .before .word2 .ensures) (c .before .before .before .before .before .word3 .ensures) (c .before .before .before .before .spot-of .ensures .0)) (c .before .before .put-place-line .ensures)
+
+pub put-place-spec : {M : Type 1} → statement M
+put-place-spec =
+    tie.close
+    (tie.spec
+    mul-word
+    word-requires
+    mul-word-2
+    add-word
+    word-requires-2
+    mul-word-3
+    add-word-2
+    word-requires-3
+    spot-of-requires
+    put-place-line-requires
+    same-length
+    returns)

@@ -1,0 +1,73 @@
+-- `sheet::put_rows` meets its contract. The loop's invariant: what is written, and what is still to come.
+-- Assumes nothing.
+use native.Mathlib.Omega.{arith}
+use Rattle.tables.specs.Holding.{four}
+use Rattle.tables.specs.Standing.{first}
+use Rattle.tables.specs.Seek.{further}
+use Rattle.sheet.proofs.Rows.{Going, going-first, near, going-on}
+use Rattle.sheet.specs.Texts.{headAt, rowText, rowsText}
+use Rattle.writers.proofs.Over.{Writing, last-room, same-long}
+use Rattle.sheet.proofs.Runs.{begun, write-room, write-fits, write-more, write-all}
+use Rattle.sheet.proofs.put_rows.Statement.{statement}
+use Rattle.sheet.proofs.put_rows.Tie as tie
+
+abbrev Inv-loop : tie.InvT-loop
+Inv-loop buf₀ heads keys marks values rows t at₀ s₀ left₀ buf at s left = Writing (rowsText (four heads keys marks values) first rows) buf₀ (rowsText (four heads keys marks values) s left) buf at × Going rows s left
+
+abbrev μ-loop : tie.MeasureT-loop
+μ-loop buf₀ heads keys marks values rows t at₀ s₀ left₀ buf at s left = left
+
+loop-holds : tie.Need-loop-holds Inv-loop μ-loop
+loop-holds c = (begun _ _ (c .before .before .before .before .before .pre .2), going-first (c .before .before .before .before .before .args .rows))
+
+sub-put-row : tie.Need-sub-put-row Inv-loop μ-loop
+sub-put-row c = omega (arith, last-room (c .before .loop .inv .0))
+
+part-put-row-start : tie.Need-part-put-row-start Inv-loop μ-loop
+part-put-row-start c = omega (arith, last-room (c .before .loop .inv .0))
+
+part-put-row-end : tie.Need-part-put-row-end Inv-loop μ-loop
+part-put-row-end c = omega (arith, last-room (c .before .loop .inv .0))
+
+put-row-requires : tie.Need-put-row-requires Inv-loop μ-loop
+put-row-requires c κs = (c .before .before .before .before .before .before .before .before .pre .0, near (c .before .before .before .before .before .before .before .before .args .rows) (c .before .before .loop .s) (c .before .before .loop .left) (c .before .loop-test .taken) (c .before .before .loop .inv .1) (c .before .before .before .before .before .before .before .before .pre .1), write-room (rowText (four (c .before .before .before .before .before .before .before .before .args .heads .now) (c .before .before .before .before .before .before .before .before .args .keys .now) (c .before .before .before .before .before .before .before .before .args .marks .now) (c .before .before .before .before .before .before .before .before .args .values .now))) (λ s. further s (headAt (four (c .before .before .before .before .before .before .before .before .args .heads .now) (c .before .before .before .before .before .before .before .before .args .keys .now) (c .before .before .before .before .before .before .before .before .args .marks .now) (c .before .before .before .before .before .before .before .before .args .values .now)) s)) (c .before .before .loop .s) (c .before .before .loop .left) (c .before .before .loop .inv .0) (c .before .loop-test .taken))
+
+add-at : tie.Need-add-at Inv-loop μ-loop
+add-at c = omega (arith, write-fits (rowText (four (c .before .before .before .before .before .before .before .before .before .before .before .args .heads .now) (c .before .before .before .before .before .before .before .before .before .before .before .args .keys .now) (c .before .before .before .before .before .before .before .before .before .before .before .args .marks .now) (c .before .before .before .before .before .before .before .before .before .before .before .args .values .now))) (λ s. further s (headAt (four (c .before .before .before .before .before .before .before .before .before .before .before .args .heads .now) (c .before .before .before .before .before .before .before .before .before .before .before .args .keys .now) (c .before .before .before .before .before .before .before .before .before .before .before .args .marks .now) (c .before .before .before .before .before .before .before .before .before .before .before .args .values .now)) s)) (c .before .before .before .before .before .loop .s) (c .before .before .before .before .before .loop .left) (c .before .before .before .before .before .loop .inv .0) (c .before .before .before .before .loop-test .taken) (c .before .before .put-row .ensures), same-long (c .before .before .before .before .before .loop .inv .0))
+
+next-row-requires : tie.Need-next-row-requires Inv-loop μ-loop
+next-row-requires c κs = near (c .before .before .before .before .before .before .before .before .before .before .before .args .rows) (c .before .before .before .before .before .loop .s) (c .before .before .before .before .before .loop .left) (c .before .before .before .before .loop-test .taken) (c .before .before .before .before .before .loop .inv .1) (c .before .before .before .before .before .before .before .before .before .before .before .pre .1)
+
+sub-left : tie.Need-sub-left Inv-loop μ-loop
+sub-left c = omega (arith, c .before .before .before .before .before .loop-test .taken)
+
+loop-less : tie.Need-loop-less Inv-loop μ-loop
+loop-less c = omega (arith, c .before .before .before .before .before .loop-test .taken)
+
+loop-again : tie.Need-loop-again Inv-loop μ-loop
+loop-again c = rw (c .next-row .ensures) (write-more (rowText (four (c .before .before .before .before .before .before .before .before .before .before .before .before .args .heads .now) (c .before .before .before .before .before .before .before .before .before .before .before .before .args .keys .now) (c .before .before .before .before .before .before .before .before .before .before .before .before .args .marks .now) (c .before .before .before .before .before .before .before .before .before .before .before .before .args .values .now))) (λ s. further s (headAt (four (c .before .before .before .before .before .before .before .before .before .before .before .before .args .heads .now) (c .before .before .before .before .before .before .before .before .before .before .before .before .args .keys .now) (c .before .before .before .before .before .before .before .before .before .before .before .before .args .marks .now) (c .before .before .before .before .before .before .before .before .before .before .before .before .args .values .now)) s)) (c .before .before .before .before .before .before .loop .s) (c .before .before .before .before .before .before .loop .left) (c .before .before .before .before .before .before .loop .inv .0) (c .before .before .before .before .before .loop-test .taken) (c .before .before .before .put-row .ensures), going-on (c .before .before .before .before .before .before .before .before .before .before .before .before .args .rows) (c .before .before .before .before .before .before .loop .s) (c .before .before .before .before .before .before .loop .left) (c .before .before .before .before .before .loop-test .taken) (c .before .before .before .before .before .before .loop .inv .1) _)
+
+same-length : tie.Need-same-length Inv-loop μ-loop
+same-length c = same-long (c .before .loop .inv .0)
+
+returns : tie.Need-returns Inv-loop μ-loop
+returns c = write-all (rowText (four (c .before .before .before .before .before .before .before .args .heads .now) (c .before .before .before .before .before .before .before .args .keys .now) (c .before .before .before .before .before .before .before .args .marks .now) (c .before .before .before .before .before .before .before .args .values .now))) (λ s. further s (headAt (four (c .before .before .before .before .before .before .before .args .heads .now) (c .before .before .before .before .before .before .before .args .keys .now) (c .before .before .before .before .before .before .before .args .marks .now) (c .before .before .before .before .before .before .before .args .values .now)) s)) (c .before .loop .s) (c .before .loop .left) (c .before .loop .inv .0) (c .loop-test .left)
+
+pub put-rows-spec : {M : Type 1} → statement M
+put-rows-spec =
+    tie.close
+    (tie.spec
+    Inv-loop
+    μ-loop
+    loop-holds
+    sub-put-row
+    part-put-row-start
+    part-put-row-end
+    put-row-requires
+    add-at
+    next-row-requires
+    sub-left
+    loop-less
+    loop-again
+    same-length
+    returns)

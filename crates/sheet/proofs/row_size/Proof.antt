@@ -1,0 +1,43 @@
+-- `sheet::row_size` meets its contract.
+-- Assumes nothing.
+use native.Mathlib.Omega.{arith}
+use lib.ListN.{length-append}
+use Rattle.writers.proofs.Texts.{sized}
+use Rattle.tables.specs.Holding.{four}
+use Rattle.sheet.proofs.Rows.{row-here}
+use borrow.Author.Needs.{needs}
+use Rattle.sheet.proofs.row_size.Statement.{statement}
+use Rattle.sheet.proofs.row_size.Tie as tie
+
+word-requires : tie.Need-word-requires
+word-requires c κs = search needs
+
+place-size-requires : tie.Need-place-size-requires
+place-size-requires c κs = (c .before .before .before .before .before .pre .0, c .before .before .before .before .before .pre .1 .row)
+
+marks-size-requires : tie.Need-marks-size-requires
+marks-size-requires c κs = (c .before .before .before .before .before .before .pre .0, omega (arith, c .before .before .before .before .before .before .pre .1 .row, c .before .before .before .before .before .before .pre .1 .mark))
+
+values-size-requires : tie.Need-values-size-requires
+values-size-requires c κs = (c .before .before .before .before .before .before .before .pre .0, omega (arith, c .before .before .before .before .before .before .before .pre .1 .row, c .before .before .before .before .before .before .before .pre .1 .value))
+
+add-result : tie.Need-add-result
+add-result c = omega (arith, c .before .before .place-size .ensures .most, c .before .marks-size .ensures .most)
+
+add-result-2 : tie.Need-add-result-2
+add-result-2 c = omega (arith, c .before .before .place-size .ensures .most, c .before .marks-size .ensures .most, c .values-size .ensures .most)
+
+returns : tie.Need-returns
+returns c = sized _ (row-here (four (c .before .before .before .before .before .before .before .before .args .heads .now) (c .before .before .before .before .before .before .before .before .args .keys .now) (c .before .before .before .before .before .before .before .before .args .marks .now) (c .before .before .before .before .before .before .before .before .args .values .now)) (c .before .before .before .before .before .before .before .before .args .s) (c .before .before .before .word .ensures)) (simp length-append (omega (arith, c .before .before .place-size .ensures .size, c .before .marks-size .ensures .size, c .values-size .ensures .size))) (omega (arith, c .before .before .place-size .ensures .most, c .before .marks-size .ensures .most, c .values-size .ensures .most))
+
+pub row-size-spec : {M : Type 1} → statement M
+row-size-spec =
+    tie.close
+    (tie.spec
+    word-requires
+    place-size-requires
+    marks-size-requires
+    values-size-requires
+    add-result
+    add-result-2
+    returns)

@@ -1,0 +1,87 @@
+-- Document 01, "The saved sheet": the text of the tables' words, whatever the words are. A place is a row's head and three key words, a
+-- value six words. Behind a table's end its words count as 0, a kind that is none as null, a key that is too long as the empty one.
+-- specs/Saving.antt says that of tables that hold a document's rows this is the document's sheet.
+-- Assumes nothing: these are definitions.
+use Prim.Native.Nat.{ℕ, zero, suc, _+_, _*_, _-_, _≤_, _<_}
+use mathlib.Core.Bool.{cond}
+use mathlib.Core.List.{List, [], _∷_, _++_}
+use lib.Dec.{ltb, eqb}
+use lib.ListN.{getD}
+use Rattle.meaning.specs.Places.{Value}
+use Rattle.meaning.specs.Sheet.{lineText, sheetLine, seenLine, placeLine, markLine, valueLine, endLine}
+use Rattle.writers.specs.declared.Kind.{Kind}
+use Rattle.writers.specs.declared.Kind.the-variants.{Null, True, False, NonNeg, Neg, String}
+use Rattle.lines.specs.Rows.{valueOf}
+use Rattle.lines.specs.Spots.{spotOf}
+use Rattle.lines.specs.declared.Spot.{Spot}
+use Rattle.lines.specs.declared.Spot.the-variants.{Key, Element}
+use Rattle.tables.specs.Words.{depthIn, sideIn, mapIn, listIn, marksAt, valuesAt, Tables}
+use Rattle.tables.specs.Seek.{Three, threeAt, further}
+use Rattle.tables.specs.Standing.{first}
+use Rattle.tables.specs.declared.Stop.{Stop}
+
+-- the kind of a value by its word, and by the number that it is
+unfoldable pub kindIn : ℕ → ℕ → Kind
+kindIn k n =
+    cond (eqb k 1) True
+    (cond (eqb k 2) False
+    (cond (eqb k 3) (cond (ltb 9223372036854775807 n) Null (NonNeg n))
+    (cond (eqb k 4) (cond (ltb 9223372036854775807 n) Null (Neg n))
+    (cond (ltb k 5) Null (cond (ltb 37 k) Null (String (k - 5)))))))
+
+-- where a row hangs, by its side and its key's words
+unfoldable pub spotIn : ℕ → Three → Spot
+spotIn s k = cond (eqb s 1) (Element (k .hi)) (cond (ltb 16 (k .len)) (Key (k .hi) (k .lo) 0) (Key (k .hi) (k .lo) (k .len)))
+
+-- the place line of row n, whose head is h
+unfoldable pub placeText : ℕ → List ℕ → ℕ → List ℕ
+placeText h keys n =
+    lineText (placeLine (depthIn h) (spotOf (spotIn (sideIn h) (threeAt keys n))) (eqb (mapIn h) 1) (eqb (listIn h) 1))
+
+-- value i, and its line
+abbrev pub fourAt : List ℕ → ℕ → List ℕ
+fourAt values a = getD values (a + 2) 0 ∷ getD values (a + 3) 0 ∷ getD values (a + 4) 0 ∷ getD values (a + 5) 0 ∷ []
+
+unfoldable pub valueAt : List ℕ → ℕ → Value
+valueAt values i =
+    valueOf (getD values (6 * i) 0) (kindIn (getD values (6 * i + 1) 0) (getD values (6 * i + 2) 0)) (fourAt values (6 * i))
+
+abbrev pub valueText : List ℕ → ℕ → List ℕ
+valueText values i = lineText (valueLine (valueAt values i))
+
+abbrev pub markText : List ℕ → ℕ → List ℕ
+markText marks i = lineText (markLine (getD marks i 0))
+
+-- n texts, one behind the other: the one at s, then from the next on
+unfoldable pub texts : {S : Type 0} → (S → List ℕ) → (S → S) → S → ℕ → List ℕ
+texts piece next s zero = []
+texts piece next s (suc n) = piece s ++ texts piece next (next s) n
+
+-- the lines of n marks, of n values, from one on
+abbrev pub marksText : List ℕ → ℕ → ℕ → List ℕ
+marksText marks = texts (markText marks) (λ i. i + 1)
+
+abbrev pub valuesText : List ℕ → ℕ → ℕ → List ℕ
+valuesText values = texts (valueText values) (λ i. i + 1)
+
+-- the head of the row at s, the lines of that row, and of n rows from there on
+abbrev pub headAt : Tables → Stop → ℕ
+headAt T s = getD (T .heads) (s .row) 0
+
+unfoldable pub rowText : Tables → Stop → List ℕ
+rowText T s =
+    placeText (headAt T s) (T .keys) (s .row)
+    ++ (marksText (T .marks) (s .mark) (marksAt (headAt T s)) ++ valuesText (T .values) (s .value) (valuesAt (headAt T s)))
+
+abbrev pub rowsText : Tables → Stop → ℕ → List ℕ
+rowsText T = texts (rowText T) (λ s. further s (headAt T s))
+
+-- the sheet, with so many rows
+unfoldable pub sheetText : Tables → ℕ → List ℕ → List ℕ
+sheetText T rows seen = lineText sheetLine ++ (lineText (seenLine seen) ++ (rowsText T first rows ++ lineText (endLine rows)))
+
+-- one of at most 264 rows, by the greatest counts that heads can give the rows before it
+pub record Near (s : Stop) : Type 0 where
+  pub row : s .row < 264
+  pub mark : s .mark ≤ 2048 * s .row
+  pub value : s .value ≤ 512 * s .row

@@ -1,0 +1,143 @@
+-- `weigh::weigh_way` meets its contract. The measure: the words that are left of the way. Assumes nothing.
+use borrow.Author.Needs.{needs}
+use native.Mathlib.Omega.{arith}
+use mathlib.Core.Path.{_≡_, ap, _∙_}
+use lib.ListN.{length}
+use Rattle.weigh.proofs.Weights.{marked-places}
+use Rattle.weigh.proofs.Steps.{short-weighed, deep-weighed, last-weighed, part-weighed}
+use Prim.Native.Nat.{ℕ, _<_}
+use borrow.Fn.Kinds.{In}
+use borrow.Fn.PlainCycle.{Measures, is, falls, and}
+use Rattle.weigh.proofs.weigh_way.Reads as weigh-way
+use Rattle.weigh.proofs.weigh_way.Kinds as weigh-way-kinds
+use Rattle.weigh.proofs.+weigh_way.Lts-weigh_way as weigh-way-lts
+use Rattle.counters.proofs.covered.Reads as covered-reads
+use Rattle.weigh.proofs.carry.Reads as carry-reads
+use Rattle.weigh.proofs.look.Reads as look-reads
+use Rattle.weigh.proofs.mark.Reads as mark-reads
+use Rattle.weigh.proofs.past_row.Reads as past-row-reads
+use Rattle.weigh.proofs.weigh_last.Reads as weigh-last-reads
+use Rattle.weigh.proofs.weightless.Reads as weightless-reads
+use Rattle.weigh.proofs.+weigh_way.{statement}
+use Rattle.weigh.proofs.+weigh_way.Tie.{close}
+
+abbrev μ-weigh-way : Measures 5 weigh-way-kinds.ps ℕ
+μ-weigh-way κs a = length (a .1 .1 .1 .1 .1 .1 .1 .1 .1 .1 .0 .now)
+
+abbrev weigh-way-at : ℕ → In 5 weigh-way-kinds.ps
+weigh-way-at t = and 5 weigh-way-kinds.ps (is 5 weigh-way-kinds.ps μ-weigh-way t) weigh-way.Pre
+
+abbrev weigh-way-below : ℕ → In 5 weigh-way-kinds.ps
+weigh-way-below t =
+    and 5 weigh-way-kinds.ps (falls 5 weigh-way-kinds.ps _<_ μ-weigh-way t) weigh-way.Pre
+
+-- what the callees ask and ensure
+abbrev claims : ℕ → weigh-way-lts.Claims
+claims t = (
+  weightless-reads.Asked,
+  weightless-reads.Learnt,
+  weigh-last-reads.Asked,
+  weigh-last-reads.Learnt,
+  look-reads.Asked,
+  look-reads.Learnt,
+  past-row-reads.Asked,
+  past-row-reads.Learnt,
+  weigh-way-below t,
+  weigh-way.Post,
+  mark-reads.Asked,
+  mark-reads.Learnt,
+  covered-reads.Asked,
+  covered-reads.Learnt,
+  carry-reads.Asked,
+  carry-reads.Learnt,
+)
+
+weigh-way-weightless-requires : (t : ℕ) → weigh-way-lts.Need-weightless-requires (claims t) (weigh-way-at t) weigh-way.Post
+weigh-way-weightless-requires t c κs = search needs
+
+weigh-way-returns : (t : ℕ) → weigh-way-lts.Need-returns (claims t) (weigh-way-at t) weigh-way.Post
+weigh-way-returns t c = rw (c .weightless .ensures) (short-weighed _ _ _ _ _ _ _ _ _ _ _ (c .before .if1 .taken))
+
+weigh-way-weightless-requires-2 : (t : ℕ) → weigh-way-lts.Need-weightless-requires-2 (claims t) (weigh-way-at t) weigh-way.Post
+weigh-way-weightless-requires-2 t c κs = search needs
+
+weigh-way-returns-2 : (t : ℕ) → weigh-way-lts.Need-returns-2 (claims t) (weigh-way-at t) weigh-way.Post
+weigh-way-returns-2 t c = rw (c .weightless2 .ensures) (deep-weighed _ _ _ _ _ _ _ _ _ _ _ (c .before .if2 .taken))
+
+weigh-way-shared-slice-read-hi : (t : ℕ) → weigh-way-lts.Need-shared-slice-read-hi (claims t) (weigh-way-at t) weigh-way.Post
+weigh-way-shared-slice-read-hi t c = search needs
+
+weigh-way-shared-slice-read-lo : (t : ℕ) → weigh-way-lts.Need-shared-slice-read-lo (claims t) (weigh-way-at t) weigh-way.Post
+weigh-way-shared-slice-read-lo t c = search needs
+
+weigh-way-shared-slice-read-len : (t : ℕ) → weigh-way-lts.Need-shared-slice-read-len (claims t) (weigh-way-at t) weigh-way.Post
+weigh-way-shared-slice-read-len t c = search needs
+
+weigh-way-weigh-last-requires : (t : ℕ) → weigh-way-lts.Need-weigh-last-requires (claims t) (weigh-way-at t) weigh-way.Post
+weigh-way-weigh-last-requires t c κs = search needs
+
+weigh-way-returns-3 : (t : ℕ) → weigh-way-lts.Need-returns-3 (claims t) (weigh-way-at t) weigh-way.Post
+weigh-way-returns-3 t c = last-weighed _ _ _ _ _ _ _ _ _ _ _ (c .before .if3 .taken) _ (c .weigh-last .ensures)
+
+weigh-way-look-requires : (t : ℕ) → weigh-way-lts.Need-look-requires (claims t) (weigh-way-at t) weigh-way.Post
+weigh-way-look-requires t c κs = search needs
+
+weigh-way-past-row-requires : (t : ℕ) → weigh-way-lts.Need-past-row-requires (claims t) (weigh-way-at t) weigh-way.Post
+weigh-way-past-row-requires t c κs = search needs
+
+weigh-way-add-weigh-way : (t : ℕ) → weigh-way-lts.Need-add-weigh-way (claims t) (weigh-way-at t) weigh-way.Post
+weigh-way-add-weigh-way t c = search needs
+
+weigh-way-sub-weigh-way : (t : ℕ) → weigh-way-lts.Need-sub-weigh-way (claims t) (weigh-way-at t) weigh-way.Post
+weigh-way-sub-weigh-way t c = search needs
+
+weigh-way-part-weigh-way-start : (t : ℕ) → weigh-way-lts.Need-part-weigh-way-start (claims t) (weigh-way-at t) weigh-way.Post
+weigh-way-part-weigh-way-start t c = search needs
+
+weigh-way-part-weigh-way-end : (t : ℕ) → weigh-way-lts.Need-part-weigh-way-end (claims t) (weigh-way-at t) weigh-way.Post
+weigh-way-part-weigh-way-end t c = search needs
+
+weigh-way-weigh-way-requires : (t : ℕ) → weigh-way-lts.Need-weigh-way-requires (claims t) (weigh-way-at t) weigh-way.Post
+weigh-way-weigh-way-requires t c κs = search needs
+
+weigh-way-mark-requires : (t : ℕ) → weigh-way-lts.Need-mark-requires (claims t) (weigh-way-at t) weigh-way.Post
+weigh-way-mark-requires t c κs = omega (arith, c .weigh-way .ensures .few-marks, c .before .weigh-way-arg .given .2, c .before .before .before .before .before .before .before .before .before .before .before .before .before .before .before .good .1 .1 .1 .1 .1 .1 .1 .1 .1 .1 .0 .1)
+
+weigh-way-covered-requires : (t : ℕ) → weigh-way-lts.Need-covered-requires (claims t) (weigh-way-at t) weigh-way.Post
+weigh-way-covered-requires t c κs = search needs
+
+weigh-way-carry-requires : (t : ℕ) → weigh-way-lts.Need-carry-requires (claims t) (weigh-way-at t) weigh-way.Post
+weigh-way-carry-requires t c κs =
+    let e : c .before .mark .result .places ≡ c .before .before .weigh-way .result .places =
+    ap (λ u. u .places) (c .before .mark .ensures) ∙ marked-places _ _ in
+    omega (arith, e, c .before .before .weigh-way .ensures .few-places, c .before .before .before .weigh-way-arg .given .2, c .before .before .before .before .before .before .before .before .before .before .before .before .before .before .before .before .before .good .1 .1 .1 .1 .1 .1 .1 .1 .1 .1 .0 .1)
+
+weigh-way-returns-4 : (t : ℕ) → weigh-way-lts.Need-returns-4 (claims t) (weigh-way-at t) weigh-way.Post
+weigh-way-returns-4 t c =
+    part-weighed _ _ _ _ _ _ _ _ _ _ _ _ _ _ _ _ _ (c .before .before .before .before .before .before .before .before .before .before .before .before .if1 .left) (c .before .before .before .before .before .before .before .if3 .left) (c .before .before .before .before .before .before .look .ensures) (c .before .before .before .before .before .past-row .ensures)
+    (c .before .before .before .weigh-way .ensures) (c .before .before .mark .ensures) (c .before .covered .ensures) (c .carry .ensures)
+
+pub +weigh-way-spec : {M : Type 1} → statement M
++weigh-way-spec = close μ-weigh-way λ t. weigh-way-lts.spec (claims t)
+    (weigh-way-at t)
+    weigh-way.Post
+    (weigh-way-weightless-requires t)
+    (weigh-way-returns t)
+    (weigh-way-weightless-requires-2 t)
+    (weigh-way-returns-2 t)
+    (weigh-way-shared-slice-read-hi t)
+    (weigh-way-shared-slice-read-lo t)
+    (weigh-way-shared-slice-read-len t)
+    (weigh-way-weigh-last-requires t)
+    (weigh-way-returns-3 t)
+    (weigh-way-look-requires t)
+    (weigh-way-past-row-requires t)
+    (weigh-way-add-weigh-way t)
+    (weigh-way-sub-weigh-way t)
+    (weigh-way-part-weigh-way-start t)
+    (weigh-way-part-weigh-way-end t)
+    (weigh-way-weigh-way-requires t)
+    (weigh-way-mark-requires t)
+    (weigh-way-covered-requires t)
+    (weigh-way-carry-requires t)
+    (weigh-way-returns-4 t)

@@ -1,0 +1,147 @@
+-- Looking for a place under a key, in tables that hold rows; and what goes there.
+-- Assumes nothing.
+use Prim.Native.Nat.{ℕ}
+use native.Mathlib.Omega.{arith}
+use mathlib.Core.Path.{_≡_, refl, sym, ap, _∙_, subst}
+use mathlib.Core.Bool.{Bool, true, false, cond, not, _&&_}
+use mathlib.Core.List.{List, [], _∷_, _++_, append-assoc}
+use borrow.Author.Tests.{ne-eqb, eqb-true}
+use lib.Dec.{eqb}
+use lib.ListN.{length}
+use Rattle.meaning.specs.Valid.{ValidKey}
+use Rattle.meaning.specs.Sheet.{Spot, inMap, inList, Row}
+use Rattle.rows.specs.Blocks.{join, passed, rest, deeper, over, at, keyBelow, isKey, isId}
+use Rattle.rows.specs.Locate.{nowhere, here, locateHere, locate}
+use Rattle.rows.specs.Counting.{goneMarks, goneValues, newBlock}
+use Rattle.tables.specs.Finds.{GoodSpot, Agrees, Tells, wantKey, wantElement, key-agrees, element-agrees, key-tells, element-tells}
+use Rattle.tables.specs.Words.{spotWords}
+use Rattle.tables.specs.Standing.{behind}
+use Rattle.tables.specs.Holding.{Holds, four, begins}
+use Rattle.tables.specs.Parts.{at-behind}
+use Rattle.tables.specs.Stands.{FindsIn, Knows}
+use Rattle.tables.specs.declared.Stop.{Stop}
+use Rattle.tables.specs.declared.Want.{Want}
+use Rattle.weigh.specs.declared.Lost.{Lost}
+use Rattle.weigh.specs.declared.Sight.{Sight}
+use Rattle.weigh.specs.Goes.{Goes, RowGone, BlockGone}
+use Rattle.weigh.specs.Weighs.{wantOf, Sees, missing, standing, Looks, SightGone}
+
+pub false-true : (b : Bool) → b ≡ false → b ≡ true → ⊥
+false-true b f t = let z : _≡_ {A = ℕ} 0 1 = ap (λ b. cond b 1 0) (sym f ∙ t) in omega arith
+
+pub passed-rest : (p : Row → Bool) (rs : List Row) → rs ≡ passed p rs ++ rest p rs
+unfolding passed rest
+passed-rest p [] = refl
+passed-rest p (r ∷ rs) = go (p r) (passed-rest p rs)
+  where
+    go : (b : Bool) → rs ≡ passed p rs ++ rest p rs → r ∷ rs ≡ cond b (r ∷ passed p rs) [] ++ cond b (rest p rs) (r ∷ rs)
+    go true e = ap (r ∷_) e
+    go false e = refl
+
+-- nothing hangs there
+pub looks-none : (h k : List ℕ) (rows : ℕ) (from : Stop) (n : ℕ) (hangs : Bool) (hi lo len : ℕ) (s : Sight) → s .there ≡ false
+    → hangs ≡ false → Looks h k rows from n hangs hi lo len s
+unfolding locate rest locateHere
+looks-none h k rows from n hangs hi lo len s e z m v c A B pass meant H q f a t =
+    missing e (ap (λ b. locate n pass meant (cond b B [])) z)
+
+-- the first row that isn't passed over, if it is the one that is meant
+and-left : (a b : Bool) → a && b ≡ true → a ≡ true
+and-left true b e = refl
+and-left false b e = e
+
+sees-first : (rs : List Row) (n : ℕ) (meant : Spot → Bool) (s : Sight) (F B : List Row) → rs ≡ F ++ B → s .at ≡ behind F
+    → s .there ≡ begins n meant B → Sees rs n s (locateHere n meant B)
+unfolding locateHere
+sees-first rs n meant s F [] e f t = missing t refl
+sees-first rs n meant s F (r ∷ R) e f t = go (at n meant r) refl
+  where
+    go : (b : Bool) → at n meant r ≡ b
+        → Sees rs n s (cond (at n meant r) (here (record { own = r; under = passed (deeper n) R })) nowhere)
+    go true y =
+        standing F r R (t ∙ y) e f (eqb-true (r .depth) n (and-left (eqb (r .depth) n) (meant (r .spot)) y))
+        (ap (λ b. cond b (here (record { own = r; under = passed (deeper n) R })) nowhere) y)
+    go false y = missing (t ∙ y) (ap (λ b. cond b (here (record { own = r; under = passed (deeper n) R })) nowhere) y)
+
+pub looks-found : (h k : List ℕ) (rows : ℕ) (from : Stop) (n : ℕ) (hangs : Bool) (hi lo len : ℕ) (w : Want) (s : Stop) (b : Bool)
+    → hangs ≡ true → w ≡ wantOf n hi lo len → FindsIn h k rows from w s → Knows h k rows (s .row) w b
+    → Looks h k rows from n hangs hi lo len (record { at = s; there = b })
+unfolding locate wantOf
+looks-found h k rows from n hangs hi lo len w s b x e find know m v c A B pass meant H q f a t =
+    let w′ = wantOf n hi lo len in
+    let o = over n pass in
+    let F = A ++ passed o B in
+    let a′ : Agrees w pass = subst (λ w. Agrees w pass) (sym e) a in
+    let t′ : Tells w meant = subst (λ w. Tells w meant) (sym e) t in
+    let d : w .depth ≡ n = ap (λ w. w .depth) e in
+    let g : s ≡ behind F = find m v c A B pass H q (f x) a′ ∙ ap (λ n. behind (A ++ passed (over n pass) B)) d in
+    let z : A ++ B ≡ F ++ rest o B = ap (A ++_) (passed-rest o B) ∙ sym (append-assoc A (passed o B) (rest o B)) in
+    let K = subst (Holds (four h k m v) c) z H in
+    let y : b ≡ begins n meant (rest o B) =
+    know m v c F (rest o B) meant K q (at-behind s F g .row) t′ ∙ ap (λ n. begins n meant (rest o B)) d in
+    subst (λ b′. Sees (A ++ B) n (record { at = s; there = b }) (locate n pass meant (cond b′ B []))) (sym x)
+    (sees-first (A ++ B) n meant (record { at = s; there = b }) F (rest o B) z g y)
+
+-- Keys and element ids as spots.
+
+abbrev pub passOf : Spot → Spot → Bool
+passOf (inMap k) = keyBelow k
+passOf (inList e) = λ p. not (isId e p)
+
+abbrev pub meantOf : Spot → Spot → Bool
+meantOf (inMap k) = isKey k
+meantOf (inList e) = isId e
+
+key-want : (n : ℕ) (k : List ℕ) (hi lo len : ℕ) → hi ∷ lo ∷ len ∷ [] ≡ spotWords (inMap k) → ValidKey k
+    → wantKey n k ≡ wantOf n hi lo len
+unfolding wantOf
+key-want n k hi lo len e v =
+    let x : hi ≡ Rattle.readers.specs.Words.pack 8 k = cc in
+    let y : lo ≡ Rattle.readers.specs.Words.pack 8 (lib.ListN.drop 8 k) = cc in
+    let z : len ≡ length k = cc in
+    rw (ne-eqb len 17 (λ q. omega (arith, v .short)), x, y, z)
+
+element-want : (n e : ℕ) (hi lo len : ℕ) → hi ∷ lo ∷ len ∷ [] ≡ spotWords (inList e) → wantElement n e ≡ wantOf n hi lo len
+unfolding wantOf
+element-want n e hi lo len q =
+    let x : hi ≡ e = cc in
+    let y : lo ≡ 0 = cc in
+    let z : len ≡ 17 = cc in
+    rw (x, y, z)
+
+pub spot-agrees : (n : ℕ) (p : Spot) (hi lo len : ℕ) → hi ∷ lo ∷ len ∷ [] ≡ spotWords p → GoodSpot p
+    → Agrees (wantOf n hi lo len) (passOf p)
+spot-agrees n (inMap k) hi lo len e g = subst (λ w. Agrees w (keyBelow k)) (key-want n k hi lo len e g) (key-agrees n k g)
+spot-agrees n (inList i) hi lo len e g =
+    subst (λ w. Agrees w (λ p. not (isId i p))) (element-want n i hi lo len e) (element-agrees n i)
+
+pub spot-tells : (n : ℕ) (p : Spot) (hi lo len : ℕ) → hi ∷ lo ∷ len ∷ [] ≡ spotWords p → GoodSpot p
+    → Tells (wantOf n hi lo len) (meantOf p)
+spot-tells n (inMap k) hi lo len e g = subst (λ w. Tells w (isKey k)) (key-want n k hi lo len e g) (key-tells n k g)
+spot-tells n (inList i) hi lo len e g = subst (λ w. Tells w (isId i)) (element-want n i hi lo len e) (element-tells n i)
+
+-- What goes there.
+
+-- of a new place nothing
+new-none : (d : List ℕ) (n : ℕ) (p : Spot) → Goes d (join (newBlock n p)) (record { marks = 0; values = 0 })
+unfolding goneMarks goneValues Rattle.meaning.specs.Clear.clearMarks Rattle.meaning.specs.Clear.clearValues Rattle.meaning.specs.Sets.keep
+new-none d n p = record { marks = refl; values = refl }
+
+pub sight-none : (h m v : List ℕ) (rows : ℕ) (s : Sight) (alone : Bool) (d : List ℕ) → s .there ≡ false
+    → SightGone h m v rows s alone d (record { marks = 0; values = 0 })
+sight-none h m v rows s alone d f k c rs n p l H q (standing F r R y e g z x) = absurd (false-true (s .there) f y)
+sight-none h m v rows s true d f k c rs n p l H q (missing y x) =
+    rw x (refl, new-none d n p .values)
+sight-none h m v rows s false d f k c rs n p l H q (missing y x) = rw x (new-none d n p)
+
+pub sight-row : (h m v : List ℕ) (rows : ℕ) (s : Sight) (alone : Bool) (d : List ℕ) (g : Lost) → alone ≡ true → s .there ≡ true → RowGone h m v (s .at) d g
+    → SightGone h m v rows s alone d (record { marks = 0; values = g .values })
+sight-row h m v rows s alone d g a y W k c rs n p l H q (missing f x) = absurd (false-true (s .there) f y)
+sight-row h m v rows s alone d g a y W k c rs n p l H q (standing F r R y′ e b z x) =
+    rw (a, x) (refl, W .is k c F r R (subst (Holds (four h k m v) c) e H) b .values)
+
+pub sight-block : (h m v : List ℕ) (rows : ℕ) (s : Sight) (alone : Bool) (d : List ℕ) (g : Lost) → alone ≡ false → s .there ≡ true
+    → BlockGone h m v rows (s .at) d g → SightGone h m v rows s alone d g
+sight-block h m v rows s alone d g a y W k c rs n p l H q (missing f x) = absurd (false-true (s .there) f y)
+sight-block h m v rows s alone d g a y W k c rs n p l H q (standing F r R y′ e b z x) =
+    rw (a, x) (subst (λ n. Goes d (r ∷ passed (deeper n) R) g) z (W .is k c F r R q (subst (Holds (four h k m v) c) e H) b))

@@ -1,0 +1,38 @@
+-- `weigh::gone` meets its contract: the row, and what hangs under it. Assumes nothing.
+use borrow.Author.Needs.{needs}
+use Rattle.weigh.proofs.Blocks.{block-gone}
+use Rattle.weigh.proofs.gone.Statement.{statement}
+use Rattle.weigh.proofs.gone.Tie as tie
+
+gone-row-requires : tie.Need-gone-row-requires
+gone-row-requires c κs = search needs
+
+past-row-requires : tie.Need-past-row-requires
+past-row-requires c κs = search needs
+
+depth-at-requires : tie.Need-depth-at-requires
+depth-at-requires c κs = search needs
+
+gone-under-requires : tie.Need-gone-under-requires
+gone-under-requires c κs = search needs
+
+add-t11 : tie.Need-add-t11
+add-t11 c = search needs
+
+add-t12 : tie.Need-add-t12
+add-t12 c = search needs
+
+returns : tie.Need-returns
+returns c = block-gone _ _ _ _ _ _ _ _ _ _ (c .before .before .before .before .before .before .before .gone-row .ensures) (c .before .before .before .before .before .before .past-row .ensures) (c .before .before .before .before .before .depth-at .ensures) (c .before .before .before .before .gone-under .ensures)
+
+pub gone-spec : {M : Type 1} → statement M
+gone-spec =
+    tie.close
+    (tie.spec
+    gone-row-requires
+    past-row-requires
+    depth-at-requires
+    gone-under-requires
+    add-t11
+    add-t12
+    returns)

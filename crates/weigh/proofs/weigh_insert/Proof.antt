@@ -1,0 +1,42 @@
+-- `weigh::weigh_insert` meets its contract: behind the head, behind an element that is there, or behind none. Assumes nothing.
+use borrow.Author.Needs.{needs}
+use Rattle.weigh.proofs.Ways.{insert-first, insert-there, insert-missing}
+use Rattle.weigh.proofs.weigh_insert.Statement.{statement}
+use Rattle.weigh.proofs.weigh_insert.Tie as tie
+
+element-requires : tie.Need-element-requires
+element-requires c κs = search needs
+
+returns : tie.Need-returns
+returns c m v = rw (c .element .ensures) (insert-first _ _ m v _ _ _ _ _ _ _ _ _ (c .before .before .before .before .pre) (c .before .if1 .taken))
+
+look-requires : tie.Need-look-requires
+look-requires c κs = search needs
+
+covered-requires : tie.Need-covered-requires
+covered-requires c κs = search needs
+
+element-requires-2 : tie.Need-element-requires-2
+element-requires-2 c κs = search needs
+
+returns-2 : tie.Need-returns-2
+returns-2 c m v = rw (c .element2 .ensures, c .before .covered .ensures) (insert-there _ _ m v _ _ _ _ _ _ _ _ _ _ (c .before .before .before .before .before .before .before .pre) (c .before .before .before .before .if1 .left) (c .before .before .before .look .ensures) (c .before .before .if2 .taken))
+
+weightless-requires : tie.Need-weightless-requires
+weightless-requires c κs = search needs
+
+returns-3 : tie.Need-returns-3
+returns-3 c m v = rw (c .weightless .ensures) (insert-missing _ _ m v _ _ _ _ _ _ _ _ _ _ (c .before .before .before .before .before .before .pre) (c .before .before .before .if1 .left) (c .before .before .look .ensures) (c .before .if2 .left))
+
+pub weigh-insert-spec : {M : Type 1} → statement M
+weigh-insert-spec =
+    tie.close
+    (tie.spec
+    element-requires
+    returns
+    look-requires
+    covered-requires
+    element-requires-2
+    returns-2
+    weightless-requires
+    returns-3)

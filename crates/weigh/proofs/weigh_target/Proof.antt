@@ -1,0 +1,24 @@
+-- `weigh::weigh_target` meets its contract. Assumes nothing.
+use borrow.Author.Needs.{needs}
+use Rattle.weigh.proofs.Ways.{target-weighed}
+use Rattle.weigh.proofs.weigh_target.Statement.{statement}
+use Rattle.weigh.proofs.weigh_target.Tie as tie
+
+look-requires : tie.Need-look-requires
+look-requires c κs = search needs
+
+weigh-place-requires : tie.Need-weigh-place-requires
+weigh-place-requires c κs = search needs
+
+covered-requires : tie.Need-covered-requires
+covered-requires c κs = search needs
+
+carry-requires : tie.Need-carry-requires
+carry-requires c κs = search needs
+
+returns : tie.Need-returns
+returns c = rw (c .carry .ensures, c .before .covered .ensures) (target-weighed _ _ _ _ _ _ _ _ _ _ _ _ _ _ _ (c .before .before .before .before .before .before .before .before .pre) (c .before .before .before .look .ensures) (c .before .before .weigh-place .ensures))
+
+pub weigh-target-spec : {M : Type 1} → statement M
+weigh-target-spec =
+    tie.close (tie.spec look-requires weigh-place-requires covered-requires carry-requires returns)

@@ -1,0 +1,2 @@
+pub mod Goes
+pub mod Weighs
