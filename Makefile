@@ -25,4 +25,6 @@ rust-test:
 same:
 	cmp vectors/layout.script crates/verdicts/stdin
 	cmp vectors/layout.answers crates/verdicts/stdout
+	cmp vectors/applied.script crates/applies/stdin
+	cmp vectors/applied.answers crates/applies/stdout
 	cmp bench/typical.message crates/readings/stdin
