@@ -129,8 +129,9 @@ fn save_to(heads: &[u64], keys: &[u64], marks: &[u64], values: &[u64], c: Counts
 
 // Saves to a buffer of n bytes.
 fn save(heads: &[u64], keys: &[u64], marks: &[u64], values: &[u64], c: Counts, seen: Counters, n: usize) {
-    let mut buf = [165u8; 65536];
-    if n <= 65536 {
+    let mut space = [165u8; 65536];
+    let buf: &mut [u8] = &mut space;
+    if n <= buf.len() {
         save_to(heads, keys, marks, values, c, seen, &mut buf[..n]);
     }
 }
@@ -169,14 +170,8 @@ fn answer(
     }
 }
 
-fn main() {
-    let mut script = [0u8; 524288];
-    let n = io::read_full(0, &mut script);
-    let s = &script[..n];
-    let mut heads = [0u64; 264];
-    let mut keys = [0u64; 792];
-    let mut marks = [0u64; 1032];
-    let mut values = [0u64; 1542];
+// Answers the calls of a script, from an empty document on.
+fn play(s: &[u8], heads: &mut [u64], keys: &mut [u64], marks: &mut [u64], values: &mut [u64]) {
     let mut counts = Counts {
         rows: 0,
         marks: 0,
@@ -185,15 +180,26 @@ fn main() {
     let mut seen = Counters { at: [0u32; 8] };
     let mut at: usize = 0;
     while at < s.len() {
-        let r = answer(s, at, &mut heads, &mut keys, &mut marks, &mut values, counts, seen);
+        let r = answer(s, at, heads, keys, marks, values, counts, seen);
         let next = r.next;
         if next <= at {
             say(b"no such call\n");
             return;
         }
         at = next;
-        counts = r.counts;
-        let later = r.seen;
-        seen = later;
+        let later = r.counts;
+        counts = later;
+        let after = r.seen;
+        seen = after;
     }
+}
+
+fn main() {
+    let mut script = [0u8; 524288];
+    let n = io::read_full(0, &mut script);
+    let mut heads = [0u64; 264];
+    let mut keys = [0u64; 792];
+    let mut marks = [0u64; 1032];
+    let mut values = [0u64; 1542];
+    play(&script[..n], &mut heads, &mut keys, &mut marks, &mut values);
 }
