@@ -20,9 +20,14 @@ pub struct Script {
 impl Script {
     /// Begins with an empty document.
     pub fn new() -> Script {
-        let mut script = Script { text: Vec::new(), document: Document::new() };
+        let mut script = Script::bare();
         script.reset();
         script
+    }
+
+    /// No calls yet, not even the `reset`.
+    pub fn bare() -> Script {
+        Script { text: Vec::new(), document: Document::new() }
     }
 
     pub fn document(&self) -> &Document {
