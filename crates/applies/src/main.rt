@@ -27,7 +27,13 @@ fn say_number(n: usize, behind: &[u8]) {
 }
 
 // An empty document: every word is 0.
-fn reset(heads: &mut [u64], keys: &mut [u64], marks: &mut [u64], values: &mut [u64], next: usize) -> After {
+fn reset(
+    heads: &mut [u64],
+    keys: &mut [u64],
+    marks: &mut [u64],
+    values: &mut [u64],
+    next: usize,
+) -> After {
     let a = heads.len();
     words::blank(heads, 0, a);
     let b = keys.len();
@@ -109,7 +115,15 @@ fn say_rest(buf: &[u8], from: usize) {
 }
 
 // Saves to a lent buffer that is full of the fill byte.
-fn save_to(heads: &[u64], keys: &[u64], marks: &[u64], values: &[u64], c: Counts, seen: Counters, buf: &mut [u8]) {
+fn save_to(
+    heads: &[u64],
+    keys: &[u64],
+    marks: &[u64],
+    values: &[u64],
+    c: Counts,
+    seen: Counters,
+    buf: &mut [u8],
+) {
     let saved = sheet::save(heads, keys, marks, values, c, seen, buf);
     match saved {
         Saved::Written { written } => {
@@ -128,7 +142,15 @@ fn save_to(heads: &[u64], keys: &[u64], marks: &[u64], values: &[u64], c: Counts
 }
 
 // Saves to a buffer of n bytes.
-fn save(heads: &[u64], keys: &[u64], marks: &[u64], values: &[u64], c: Counts, seen: Counters, n: usize) {
+fn save(
+    heads: &[u64],
+    keys: &[u64],
+    marks: &[u64],
+    values: &[u64],
+    c: Counts,
+    seen: Counters,
+    n: usize,
+) {
     let mut space = [165u8; 65536];
     let buf: &mut [u8] = &mut space;
     if n <= buf.len() {
@@ -152,7 +174,16 @@ fn answer(
     }
     let m = script::block(s, a, b"receive ");
     if m.ok {
-        return receive(heads, keys, marks, values, c, seen, script::part(s, m.from, m.to), m.next);
+        return receive(
+            heads,
+            keys,
+            marks,
+            values,
+            c,
+            seen,
+            script::part(s, m.from, m.to),
+            m.next,
+        );
     }
     let b = script::first_line(s, a, b"save ");
     if b.ok {

@@ -30,7 +30,14 @@ fn copy(to: &mut [u64], from: &[u64]) {
 }
 
 // Receives the message of a block, if there is a next call and it is such.
-fn receive(text: &[u8], heads: &mut [u64], keys: &mut [u64], marks: &mut [u64], values: &mut [u64], s: State) -> State {
+fn receive(
+    text: &[u8],
+    heads: &mut [u64],
+    keys: &mut [u64],
+    marks: &mut [u64],
+    values: &mut [u64],
+    s: State,
+) -> State {
     let b = script::block(text, s.at, b"receive ");
     if !b.ok {
         return s;
@@ -57,7 +64,14 @@ fn receive(text: &[u8], heads: &mut [u64], keys: &mut [u64], marks: &mut [u64], 
 }
 
 // Receives the messages up to the first call that is another one.
-fn receive_all(text: &[u8], heads: &mut [u64], keys: &mut [u64], marks: &mut [u64], values: &mut [u64], start: State) -> State {
+fn receive_all(
+    text: &[u8],
+    heads: &mut [u64],
+    keys: &mut [u64],
+    marks: &mut [u64],
+    values: &mut [u64],
+    start: State,
+) -> State {
     let mut s = start;
     let mut at = s.at;
     while at < text.len() {
@@ -107,14 +121,33 @@ fn turns(
     let mut left = count;
     let mut s = built;
     while 0 < left {
-        s = turn(text, heads, keys, marks, values, built_heads, built_keys, built_marks, built_values, built);
+        s = turn(
+            text,
+            heads,
+            keys,
+            marks,
+            values,
+            built_heads,
+            built_keys,
+            built_marks,
+            built_values,
+            built,
+        );
         left -= 1;
     }
     s
 }
 
 // Keeps the tables as they were built, for the turns.
-fn keep(text: &[u8], heads: &mut [u64], keys: &mut [u64], marks: &mut [u64], values: &mut [u64], built: State, count: usize) -> State {
+fn keep(
+    text: &[u8],
+    heads: &mut [u64],
+    keys: &mut [u64],
+    marks: &mut [u64],
+    values: &mut [u64],
+    built: State,
+    count: usize,
+) -> State {
     let mut heads_then = [0u64; 264];
     copy(&mut heads_then, heads);
     let mut keys_then = [0u64; 792];
@@ -123,11 +156,29 @@ fn keep(text: &[u8], heads: &mut [u64], keys: &mut [u64], marks: &mut [u64], val
     copy(&mut marks_then, marks);
     let mut values_then = [0u64; 1542];
     copy(&mut values_then, values);
-    turns(text, heads, keys, marks, values, &heads_then, &keys_then, &marks_then, &values_then, built, count)
+    turns(
+        text,
+        heads,
+        keys,
+        marks,
+        values,
+        &heads_then,
+        &keys_then,
+        &marks_then,
+        &values_then,
+        built,
+        count,
+    )
 }
 
 // Builds the document, and plays the turns.
-fn play(text: &[u8], heads: &mut [u64], keys: &mut [u64], marks: &mut [u64], values: &mut [u64]) -> State {
+fn play(
+    text: &[u8],
+    heads: &mut [u64],
+    keys: &mut [u64],
+    marks: &mut [u64],
+    values: &mut [u64],
+) -> State {
     let begun = State {
         at: 0,
         counts: Counts {
