@@ -21,7 +21,7 @@ use Rattle.tables.specs.Parts.{at-behind, plain-six}
 use Rattle.tables.specs.declared.Counts.{Counts}
 use Rattle.tables.specs.declared.Stop.{Stop}
 use Rattle.steps.specs.Steps.{Adds}
-use Rattle.steps.proofs.Padded.{put-more}
+use Rattle.words.proofs.Padded.{put-more}
 use Rattle.steps.proofs.Changed.{marks-same, changed}
 use Rattle.steps.proofs.Placed.{placed}
 use Rattle.steps.proofs.Values.{among-is, rank-is, value-put}

@@ -1,6 +1,5 @@
 pub mod Heads
 pub mod Changed
-pub mod Padded
 pub mod Opened
 pub mod Placed
 pub mod Marked

@@ -22,7 +22,7 @@ use Rattle.tables.specs.Parts.{at-behind, marks-length, marks-of-append, marks-
 use Rattle.tables.specs.declared.Counts.{Counts}
 use Rattle.tables.specs.declared.Stop.{Stop}
 use Rattle.steps.specs.Steps.{Marks}
-use Rattle.steps.proofs.Padded.{put-more, put-pad}
+use Rattle.words.proofs.Padded.{put-more, put-pad}
 use Rattle.steps.proofs.Changed.{marks-between, values-same, changed}
 use Rattle.steps.proofs.Placed.{placed}
 

@@ -18,7 +18,7 @@ use Rattle.tables.specs.Parts.{marks-of-append, values-of-append, all-left, all
 use Rattle.tables.specs.declared.Counts.{Counts}
 use Rattle.steps.specs.Steps.{Opens}
 use Rattle.steps.proofs.Changed.{marks-between, values-between, rows-between}
-use Rattle.steps.proofs.Padded.{inserted-pad}
+use Rattle.words.proofs.Padded.{inserted-pad}
 
 -- Among rows that tables hold there is room for one more.
 pub record Room (h k : List ℕ) (rows at : ℕ) : Type 0 where

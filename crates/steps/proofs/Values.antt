@@ -18,7 +18,7 @@ use Rattle.words.proofs.Flat.{flat-keep, flat-rank}
 use Rattle.tables.specs.Words.{valueWords, eachValue, valuesOf, pad}
 use Rattle.tables.specs.Holding.{valuesRoom}
 use Rattle.tables.specs.Parts.{plain-six, values-length, values-of-append, values-parts}
-use Rattle.steps.proofs.Padded.{put-pad, keep-pad}
+use Rattle.words.proofs.Padded.{put-pad, keep-pad}
 use Rattle.steps.proofs.Changed.{values-between}
 
 pub strides-values : Strides 6 valueWords idOfValue

@@ -6,12 +6,13 @@ use mathlib.Core.Path.{_≡_, refl, sym, ap, _∙_}
 use mathlib.Core.Bool.{true, false}
 use mathlib.Core.List.{List, [], _∷_, _++_, append-assoc}
 use lib.IntN.{pos, negsuc}
-use lib.ListN.{length, replicate, length-append, length-replicate}
+use lib.ListN.{length, length-append}
 use Rattle.meaning.specs.Places.{Plain, null, bool, integer, string, Value}
 use Rattle.meaning.specs.Members.{All}
 use Rattle.meaning.specs.Load.{marksIn, valuesIn}
 use Rattle.meaning.specs.Sheet.{Row}
 use Rattle.theorems.specs.Accepting.{marks-append, values-append}
+use Rattle.words.proofs.Padded.{pad-length}
 use Rattle.tables.specs.Words.{valueWords, plainWords, eachValue, headWord, spotWords, headsOf, keysOf, marksOf, valuesOf, pad, Tables}
 use Rattle.tables.specs.Finds.{Narrow, AllNarrow, past, after}
 use Rattle.tables.specs.Standing.{first, behind, heads-append, keys-append, heads-length, keys-length}
@@ -122,9 +123,6 @@ few-narrow (r ∷ rs) g m v = (
 pub holds-narrow : (T : Tables) (c : Counts) (rs : List Row) → Holds T c rs → AllNarrow rs
 holds-narrow T c rs h =
     few-narrow rs (h .good) (omega (arith, h .marks-are, h .marks-fit)) (omega (arith, h .values-are, h .values-fit))
-
-pad-length : (n : ℕ) (w : List ℕ) → length w ≤ n → length (pad n w) ≡ n
-pad-length n w h = simp (length-append, length-replicate) (omega arith)
 
 pub all-narrow-left : (a b : List Row) → AllNarrow (a ++ b) → AllNarrow a
 unfolding AllNarrow

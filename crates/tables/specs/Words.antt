@@ -8,9 +8,10 @@ use Prim.Native.Nat.{ℕ, _+_, _*_, _-_, _/_, _%_}
 use mathlib.Core.Bool.{Bool, true, false}
 use mathlib.Core.List.{List, [], _∷_, _++_}
 use lib.IntN.{pos, negsuc}
-use lib.ListN.{length, replicate}
+use lib.ListN.{length}
 use Rattle.meaning.specs.Places.{Plain, null, bool, integer, string, Value}
 use Rattle.meaning.specs.Sheet.{Spot, inMap, inList, Row}
+use Rattle.words.specs.Words as words
 use Rattle.readers.specs.Words.{wordsOf, keyWords}
 
 abbrev pub bit : Bool → ℕ
@@ -85,7 +86,7 @@ valuesOf (r ∷ rs) = eachValue (r .values) ++ valuesOf rs
 
 -- live words, then zeros
 abbrev pub pad : ℕ → List ℕ → List ℕ
-pad n live = live ++ replicate (n - length live) 0
+pad n live = words.pad n live
 
 -- the four tables, whatever they hold
 pub record Tables : Type 0 where

@@ -3,3 +3,4 @@ pub mod Moves
 pub mod Rows
 pub mod Flat
 pub mod Tables
+pub mod Padded

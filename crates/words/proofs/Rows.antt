@@ -4,7 +4,7 @@ use Prim.Native.Nat.{ℕ, zero, suc, _+_, _*_, _-_, _≤_, _<_}
 use mathlib.Core.Path.{_≡_, refl, sym, ap, _∙_}
 use mathlib.Core.Bool.{Bool, true, false, cond}
 use mathlib.Core.List.{List, [], _∷_, _++_, append-assoc, append-nil}
-use native.Mathlib.Nat.{suc-mul, zero-mul, add-comm}
+use native.Mathlib.Nat.{suc-mul, zero-mul, add-comm, mul-le-mul-right}
 use native.Mathlib.Numerals.{add-one}
 use native.Mathlib.Omega.{arith}
 use borrow.Author.Tests.{lt-ltb, le-ltb}
@@ -18,6 +18,12 @@ use Rattle.words.proofs.Over.{run-length, run-one, over-none, over-one,
 
 more : (i w : ℕ) → (i + 1) * w ≡ i * w + w
 more i w = rw (add-one i) (suc-mul i w)
+
+-- a row before the last ends before the end
+pub row-in : (i n w : ℕ) → i < n → i * w + w ≤ n * w
+row-in i n w h =
+    let m : suc i * w ≤ n * w = mul-le-mul-right w h in
+    omega (arith, suc-mul i w)
 
 -- the row at i, if it is kept
 last : ℕ → (ℕ → Bool) → ℕ → List ℕ → List ℕ

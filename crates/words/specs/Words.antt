@@ -29,3 +29,7 @@ module _ {A : Type 0} where
   -- the words from `to` up to `from` replaced by `new`, which are fewer, of the words up to `live`: laid over them, then closed
   unfoldable pub shrunk : A → ℕ → ℕ → ℕ → List A → List A → List A
   shrunk z live from to new t = overAt to (new ++ (run from (live - from) t ++ replicate (from - (to + length new)) z)) t
+
+-- live words, then zeros: n words in all
+abbrev pub pad : ℕ → List ℕ → List ℕ
+pad n live = live ++ replicate (n - length live) 0

@@ -3,7 +3,7 @@
 // table from a place on, every other word as it was. The functions ask of their callers only that the words named are in the table.
 use counters::covers;
 use meaning::Counters;
-ghost use Prim.Native.Nat.{_+_, _*_, _≤_};
+ghost use Prim.Native.Nat.{_+_, _*_, _≤_, _<_};
 ghost use mathlib.Core.Path.{_≡_};
 ghost use mathlib.Core.List.{[], _∷_};
 ghost use lib.ListN.{length, drop, replicate};
@@ -151,10 +151,10 @@ pub fn rank(t: &[u64], from: usize, n: usize, id: u64) -> usize
     n
 }
 
-// How many of the n values from `from` on have a smaller id, up to the first that hasn't.
-pub fn rank_values(t: &[u64], from: usize, n: usize, id: u64) -> usize
-    requires { ⌜ from + n * 6 ≤ length (now t) ⌝ }
-    ensures { λ r. ⌜ Ranked n (rankRows 6 id n (drop from (now (t .entry)))) r ⌝ }
+// How many of the n rows of w words from `from` on have a smaller id, up to the first that hasn't.
+pub fn rank_rows(t: &[u64], from: usize, n: usize, w: usize, id: u64) -> usize
+    requires { ⌜ (0 < w) × (from + n * w ≤ length (now t)) ⌝ }
+    ensures { λ r. ⌜ Ranked n (rankRows w id n (drop from (now (t .entry)))) r ⌝ }
 {
     let mut i: usize = 0;
     let mut at = from;
@@ -162,10 +162,30 @@ pub fn rank_values(t: &[u64], from: usize, n: usize, id: u64) -> usize
         if t[at] >= id {
             return i;
         }
-        at += 6;
+        at += w;
         i += 1;
     }
     n
+}
+
+// The same of values.
+pub fn rank_values(t: &[u64], from: usize, n: usize, id: u64) -> usize
+    requires { ⌜ from + n * 6 ≤ length (now t) ⌝ }
+    ensures { λ r. ⌜ Ranked n (rankRows 6 id n (drop from (now (t .entry)))) r ⌝ }
+{
+    rank_rows(t, from, n, 6, id)
+}
+
+// Writes words from `at` on.
+pub fn lay(t: &mut [u64], at: usize, w: &[u64])
+    requires { ⌜ at + length (now w) ≤ length (now t) ⌝ }
+    ensures { λ _. ⌜ now (t .exit) ≡ overAt at (now (w .entry)) (now (t .entry)) ⌝ }
+{
+    let mut i: usize = 0;
+    while i < w.len() {
+        t[at + i] = w[i];
+        i += 1;
+    }
 }
 
 // Writes the six words of a value from `at` on.
@@ -173,11 +193,7 @@ pub fn write_words(t: &mut [u64], at: usize, w: [u64; 6])
     requires { ⌜ at + 6 ≤ length (now t) ⌝ }
     ensures { λ _. ⌜ now (t .exit) ≡ overAt at w (now (t .entry)) ⌝ }
 {
-    let mut i: usize = 0;
-    while i < 6 {
-        t[at + i] = w[i];
-        i += 1;
-    }
+    lay(t, at, &w)
 }
 
 // Writes three words from `at` on.

@@ -3,21 +3,24 @@
 use Prim.Native.Nat.{ℕ, _+_, _*_, _-_, _≤_}
 use native.Mathlib.Numerals.{add-one}
 use native.Mathlib.Omega.{arith}
-use mathlib.Core.Path.{_≡_, sym, ap, _∙_}
+use mathlib.Core.Path.{_≡_, refl, sym, ap, _∙_}
 use mathlib.Core.Bool.{Bool}
 use mathlib.Core.List.{List, [], _∷_, _++_, append-assoc}
-use native.Mathlib.Nat.{suc-mul, mul-le-mul-right}
+use native.Mathlib.Nat.{add-zero, suc-mul, mul-le-mul-right}
 use lib.ListN.{length, take, drop, replicate, length-append, length-drop, length-replicate, replicate-append-replicate}
 use lib.Seq.{length-take-le}
 use Rattle.meaning.specs.Sets.{keep, put}
 use Rattle.meaning.specs.Members.{Has, Ascending}
 use Rattle.theorems.specs.Members.{keep-length}
-use Rattle.words.specs.Words.{inserted, shrunk}
+use Rattle.words.specs.Words.{closed, inserted, shrunk, pad}
 use Rattle.words.specs.Rows.{rankOf, flat, Strides}
 use Rattle.words.proofs.Over.{inserted-parts, shrunk-parts}
 use Rattle.words.proofs.Flat.{rank-high, put-new, flat-length}
 use Rattle.words.proofs.Tables.{put-inserted}
-use Rattle.tables.specs.Words.{pad}
+
+-- as many words as asked for
+pub pad-length : (n : ℕ) (w : List ℕ) → length w ≤ n → length (pad n w) ≡ n
+pad-length n w h = simp (length-append, length-replicate) (omega arith)
 
 -- zeros: the first k, and the others
 zeros-split : (n k live : ℕ) → live + k ≤ n
@@ -58,6 +61,12 @@ shrunk-pad n to from live d X B C new x f l h k =
     ap (shrunk 0 live from to new) (pad-parts n live X B C (omega arith))
     ∙ (shrunk-parts 0 X B C (replicate (n - live) 0) new to from live x f l (omega arith)
     ∙ rw e (sym (rw g at (pad-room n d (live - d) X new C (omega arith) (omega arith)))))
+
+-- Words taken out, and the rest closed up.
+pub closed-pad : (n to from live : ℕ) (X B C : List ℕ) → length X ≡ to → to + length B ≡ from → from + length C ≡ live → live ≤ n
+    → closed 0 live from to (pad n (X ++ (B ++ C))) ≡ pad n (X ++ C)
+unfolding closed shrunk
+closed-pad n to from live X B C x f l h = rw (add-zero to) at (shrunk-pad n to from live (length B) X B C [] x f l h (omega arith))
 
 -- A new member makes one more.
 pub put-more : {A : Type 0} (number : A → ℕ) (a : A) (xs : List A) → Ascending number xs → (Has number (number a) xs → ⊥)

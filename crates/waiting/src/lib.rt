@@ -1,0 +1,113 @@
+// The waiting operations in lent memory: a table of 2560 words, forty for an operation, in ascending order of their ids, then zeros. Each
+// function is safe on any memory: a place, a count or a table that doesn't fit is found before a word is read or written. What they
+// promise of a table that holds operations says specs/Waits.
+mod row;
+
+use meaning::Counters;
+use message::Operation;
+use row::counters_at;
+use row::no_op;
+use row::read_row;
+use row::write_row;
+use words::close;
+use words::open;
+use words::rank_rows;
+ghost use Rattle.waiting.specs.Waits.{TellsId, TellsDeps, Tells, TellsWaits, Puts, TakesOut};
+
+// The id of the operation at i.
+pub fn id_at(t: &[u64], n: usize, i: usize) -> u64
+    ensures { λ r. ⌜ TellsId (now (t .entry)) n i r ⌝ }
+{
+    if t.len() < 2560 {
+        return 0;
+    }
+    if n > 64 {
+        return 0;
+    }
+    if i >= n {
+        return 0;
+    }
+    t[40 * i]
+}
+
+// Its deps.
+pub fn deps_at(t: &[u64], n: usize, i: usize) -> Counters
+    ensures { λ r. ⌜ TellsDeps (now (t .entry)) n i (r .at) ⌝ }
+{
+    if t.len() < 2560 {
+        return Counters { at: [0u32; 8] };
+    }
+    if n > 64 {
+        return Counters { at: [0u32; 8] };
+    }
+    if i >= n {
+        return Counters { at: [0u32; 8] };
+    }
+    counters_at(t, 40 * i + 1)
+}
+
+// The operation at i.
+pub fn op_at(t: &[u64], n: usize, i: usize) -> Operation
+    ensures { λ r. ⌜ Tells (now (t .entry)) n i r ⌝ }
+{
+    if t.len() < 2560 {
+        return no_op();
+    }
+    if n > 64 {
+        return no_op();
+    }
+    if i >= n {
+        return no_op();
+    }
+    read_row(t, 40 * i)
+}
+
+// Whether an operation with this id waits.
+pub fn waits(t: &[u64], n: usize, id: u64) -> bool
+    ensures { λ r. ⌜ TellsWaits (now (t .entry)) n id r ⌝ }
+{
+    if t.len() < 2560 {
+        return false;
+    }
+    if n > 64 {
+        return false;
+    }
+    let k = rank_rows(t, 0, n, 40, id);
+    if k >= n {
+        return false;
+    }
+    id == t[40 * k]
+}
+
+// Puts an operation among those that wait, none of which has its id, and answers how many they are.
+pub fn put(t: &mut [u64], n: usize, op: Operation) -> usize
+    ensures { λ r. ⌜ Puts op (now (t .entry)) n (now (t .exit)) r ⌝ }
+{
+    if t.len() < 2560 {
+        return n;
+    }
+    if n >= 64 {
+        return n;
+    }
+    let at = 40 * rank_rows(t, 0, n, 40, op.id);
+    open(t, 40 * n, at, 40);
+    write_row(t, at, op);
+    n + 1
+}
+
+// Takes out the operation at i, and answers how many are left.
+pub fn take_out(t: &mut [u64], n: usize, i: usize) -> usize
+    ensures { λ r. ⌜ TakesOut (now (t .entry)) n i (now (t .exit)) r ⌝ }
+{
+    if t.len() < 2560 {
+        return n;
+    }
+    if n > 64 {
+        return n;
+    }
+    if i >= n {
+        return n;
+    }
+    close(t, 40 * n, 40 * i + 40, 40 * i);
+    n - 1
+}
