@@ -1,6 +1,7 @@
 //! The kinds of scripts. Each writes a script from a seed.
 
 mod applied;
+mod applied_limits;
 mod chains;
 mod damaged;
 mod deep;
