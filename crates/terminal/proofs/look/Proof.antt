@@ -56,7 +56,7 @@ op-at-requires c κs = search needs
 
 -- src/lib.rt:92:5
 judge-requires : tie.Need-judge-requires
-judge-requires c κs = ?
+judge-requires c κs = search needs
 
 -- src/lib.rt:72:1
 returns-4 : tie.Need-returns-4
