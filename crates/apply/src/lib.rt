@@ -44,7 +44,7 @@ fn is_delete(deed: Deed) -> bool
     }
 }
 
-fn is_insert(deed: Deed) -> bool
+pub fn is_insert(deed: Deed) -> bool
     ensures { λ r. ⌜ r ≡ isInsert deed ⌝ }
 {
     match deed {

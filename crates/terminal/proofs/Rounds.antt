@@ -16,9 +16,8 @@ use Rattle.theorems.specs.Members.{all-pass}
 use Rattle.theorems.specs.Settling.{left, rid, next, next-all}
 use Rattle.tables.specs.Words.{Tables}
 use Rattle.message.specs.declared.Operation as M
-use Rattle.operate.specs.Judging.{verdict, Stores, Applies}
+use Rattle.operate.specs.Judging.{isTaken, verdict, Stores, Applies}
 use Rattle.operate.specs.declared.Outcome.{Outcome}
-use Rattle.operate.specs.declared.Judged.the-variants as J
 use Rattle.waiting.specs.Waits.{Waits, Gone, Tells, TakesOut}
 use Rattle.waiting.proofs.Holds.{all-at}
 use Rattle.terminal.specs.declared.State.{State}
@@ -27,7 +26,7 @@ use Rattle.terminal.specs.declared.Rounded.{Rounded}
 use Rattle.terminal.specs.declared.Settled.{Settled}
 use Rattle.terminal.specs.Keeping.{Keeps}
 use Rattle.terminal.specs.Settling.{Rid, Sweeps, Over, On, Round, Rounds, Rests, Settles}
-use Rattle.terminal.proofs.Verdicts.{taken-is, taken-verdict}
+use Rattle.terminal.proofs.Verdicts.{taken-verdict}
 use Rattle.terminal.proofs.Picking.{Spotted, spotted, spot-nobody, without-at, settle-over, settle-on}
 
 module _ (T : Tables) (t t₁ : List ℕ) (s : State) (w : Swept) (S : Sweeps T t s w t₁) where
@@ -85,10 +84,10 @@ module _ (T : Tables) (t t₁ : List ℕ) (s : State) (w : Swept) (S : Sweeps T 
         sent : (X : Terminal) (K : Keeps T t s X) → Sent (one X K .one)
         sent X K = let q = one X K in all-at Sent (q .ahead) (q .behind) (q .one) (rw (q .whole) at (S .sweeps X K .keeps .sent))
 
-        taken : (X : Terminal) (K : Keeps T t s X) → verdict (one X K .one) (X .document) ≡ J.Taken
+        taken : (X : Terminal) (K : Keeps T t s X) → isTaken (verdict (one X K .one) (X .document)) ≡ true
         taken X K =
             let q = one X K in
-            taken-is _ (taken-verdict (X .document) (q .one) (sent X K .above) (alive X K) ∙ q .passes)
+            taken-verdict (X .document) (q .one) (sent X K .above) (alive X K) ∙ q .passes
 
         stored : (X : Terminal) (K : Keeps T t s X) → Stores U (o .counts) (o .seen .at) (apply (one X K .one) (X .document))
         unfolding Tells
@@ -97,7 +96,7 @@ module _ (T : Tables) (t t₁ : List ℕ) (s : State) (w : Swept) (S : Sweeps T 
             let d = S .sweeps X K .keeps .document in
             let m = read (q .ahead) (q .behind) (q .one) (placed X K) (q .place) in
             let v = sent X K .valid in
-            A .takes (X .document) (q .one) d m v (A .answers (X .document) (q .one) d m v ∙ taken X K)
+            A .takes (X .document) (q .one) d m v (ap (λ z. isTaken z) (A .answers (X .document) (q .one) d m v) ∙ taken X K)
 
         pub rounds-on : m < w .state .waiting
             → Rounds T t s

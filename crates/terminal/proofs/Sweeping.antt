@@ -14,13 +14,13 @@ use Rattle.meaning.specs.Receive.{Terminal, dead, able}
 use Rattle.theorems.specs.Invariant.{Sent}
 use Rattle.theorems.specs.Keep.{keep-nil, keep-yes, keep-no, keep-append}
 use Rattle.tables.specs.Words.{Tables}
-use Rattle.operate.specs.Judging.{verdict}
+use Rattle.operate.specs.Judging.{isTaken, verdict}
 use Rattle.operate.specs.declared.Judged.{Judged}
 use Rattle.waiting.specs.Waits.{Waits, Gone, TakesOut}
 use Rattle.waiting.proofs.Holds.{all-at}
 use Rattle.terminal.specs.declared.State.{State}
 use Rattle.terminal.specs.declared.Swept.{Swept}
-use Rattle.terminal.specs.Verdicts.{deadly, isTaken}
+use Rattle.terminal.specs.Verdicts.{deadly}
 use Rattle.terminal.specs.Keeping.{Keeps}
 use Rattle.terminal.specs.Settling.{Looks, Spot, none, Rid}
 use Rattle.terminal.proofs.Verdicts.{deadly-verdict, taken-verdict}

@@ -8,10 +8,10 @@ use Rattle.meaning.specs.Apply.{apply}
 use Rattle.meaning.specs.Limits.{fits}
 use Rattle.meaning.specs.Judge.{notAbove, repeated, crossed, astray, downward}
 use Rattle.meaning.specs.Receive.{readyIn, dead, able}
-use Rattle.operate.specs.Judging.{readyVerdict, verdict}
+use Rattle.operate.specs.Judging.{isTaken, readyVerdict, verdict}
 use Rattle.operate.specs.declared.Judged.{Judged}
 use Rattle.operate.specs.declared.Judged.the-variants as J
-use Rattle.terminal.specs.Verdicts.{deadly, isTaken}
+use Rattle.terminal.specs.Verdicts.{deadly}
 
 -- the verdict by the tests 3, 4, ready, 8, 9, 10
 abbrev by : Bool → Bool → Bool → Bool → Bool → Bool → Judged
@@ -34,16 +34,6 @@ takes false false true false true f e = absurd (true≢false e)
 takes false false true false false true e = refl
 takes false false true false false false e = refl
 takes false false false a w f e = refl
-
-pub taken-is : (v : Judged) → isTaken v ≡ true → v ≡ J.Taken
-taken-is J.Taken e = refl
-taken-is J.Early e = absurd (false≢true e)
-taken-is J.Counter e = absurd (false≢true e)
-taken-is J.Repeat e = absurd (false≢true e)
-taken-is J.OwnDeps e = absurd (false≢true e)
-taken-is J.NoElement e = absurd (false≢true e)
-taken-is J.NotSmaller e = absurd (false≢true e)
-taken-is J.NoRoom e = absurd (false≢true e)
 
 module _ (D : Document) (o : Operation) (above : notAbove o ≡ false) where
   pub deadly-verdict : deadly (verdict o D) ≡ dead D o

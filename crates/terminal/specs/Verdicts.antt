@@ -1,4 +1,4 @@
--- Verdicts sorted: which of them drop a waiting operation, and which one applies it.
+-- Verdicts sorted: which of them drop a waiting operation, and what a refusal answers.
 -- Assumes nothing: these are definitions.
 use mathlib.Core.Bool.{Bool, true, false}
 use Rattle.meaning.specs.declared.Receipt.{Receipt}
@@ -16,16 +16,6 @@ deadly J.OwnDeps = true
 deadly J.NoElement = true
 deadly J.NotSmaller = true
 deadly J.NoRoom = false
-
-abbrev pub isTaken : Judged → Bool
-isTaken J.Taken = true
-isTaken J.Early = false
-isTaken J.Counter = false
-isTaken J.Repeat = false
-isTaken J.OwnDeps = false
-isTaken J.NoElement = false
-isTaken J.NotSmaller = false
-isTaken J.NoRoom = false
 
 -- the answer to a refusal
 abbrev pub refusalOf : Judged → Receipt

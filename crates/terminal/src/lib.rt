@@ -7,7 +7,8 @@ use operate::Judged;
 use tables::Counts;
 ghost use mathlib.Core.Path.{_≡_};
 ghost use Rattle.tables.specs.Holding.{four};
-ghost use Rattle.terminal.specs.Verdicts.{deadly, isTaken, refusalOf};
+ghost use Rattle.operate.specs.Judging.{isTaken};
+ghost use Rattle.terminal.specs.Verdicts.{deadly, refusalOf};
 ghost use Rattle.terminal.specs.Settling.{Looks, Sweeps, Rounds, Settles};
 
 // What a terminal keeps beside the lent tables.

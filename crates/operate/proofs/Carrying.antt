@@ -1,0 +1,192 @@
+-- An operation carried out on memory that holds a document.
+-- Assumes nothing.
+use Prim.Native.Nat.{ℕ, suc, _+_, _*_, _≤_, _<_}
+use native.Mathlib.Omega.{arith}
+use mathlib.Core.Path.{_≡_, refl, sym, ap, ap₂, _∙_, subst}
+use mathlib.Core.Bool.{Bool, true, false, cond, true≢false}
+use mathlib.Core.List.{List, []}
+use lib.Dec.{leb}
+use lib.ListN.{length, take}
+use borrow.Author.Tests.{leb-false, le-leb}
+use Rattle.meaning.specs.Ids.{counterOf, entryOf, entry, ready, raise}
+use Rattle.meaning.specs.Places.{Document}
+use Rattle.meaning.specs.Apply.{apply}
+use Rattle.meaning.specs.Limits.{fits}
+use Rattle.meaning.specs.Judge.{notAbove, repeated, crossed, astray, downward}
+use Rattle.meaning.specs.Receive.{readyIn}
+use Rattle.meaning.specs.Valid.{ValidOperation}
+use Rattle.meaning.specs.Ways.{steps}
+use Rattle.meaning.specs.Ways as M
+use Rattle.meaning.specs.Sheet.{Row, rowsOf}
+use Rattle.meaning.specs.declared.Counters.{Counters}
+use Rattle.theorems.specs.Accepting.{fits-limits}
+use Rattle.theorems.specs.Soundness.{sound-apply}
+use Rattle.rows.specs.Blocks.{applyRows}
+use Rattle.rows.specs.Follows.{apply-rows}
+use Rattle.rows.specs.Within.{underRows, apply-under}
+use Rattle.rows.specs.Counting.{Fresh}
+use Rattle.rows.specs.Room.{sound-fresh}
+use Rattle.counters.specs.Counted.{raised, Says}
+use Rattle.message.specs.Means.{wayWords, deedWords, Means}
+use Rattle.message.specs.declared.Operation.{Operation}
+use Rattle.tables.specs.Words.{Tables}
+use Rattle.tables.specs.Holding.{Holds}
+use Rattle.tables.specs.declared.Counts.{Counts}
+use Rattle.apply.specs.Doing.{Descends}
+use Rattle.apply.specs.declared.Act.{Act}
+use Rattle.operate.specs.Judging.{isTaken, readyVerdict, verdict, Stores, Newer, Parts, JudgesReady, Judges}
+use Rattle.operate.specs.Judging.{CarriesWay, CarriesOut, Applies}
+use Rattle.operate.specs.declared.Judged.{Judged}
+use Rattle.operate.specs.declared.Judged.the-variants as J
+use Rattle.operate.specs.declared.Outcome.{Outcome}
+use Rattle.operate.proofs.Verdicts.{whole, first-behind, steps-whole, deed-whole, way-part, cut-short, parts-of}
+
+pub newer : (D : Document) (o : M.Operation) → repeated (D .seen) o ≡ false → Newer D o
+unfolding repeated
+newer D o e = leb-false (counterOf (o .id)) (entry (D .seen) (entryOf (o .id))) e
+
+pub here-stores : (T : Tables) (c : Counts) (s : List ℕ) (D : Document) → Stores T c s D → Stores T c (D .seen) D
+here-stores T c s D S = record { rows = S .rows; counters = refl; sound = S .sound; limits = S .limits }
+
+-- what is done, of an operation
+abbrev pub actOf : Operation → Act
+actOf op = record { id = op .id; deps = op .deps; deed = op .deed; words = op .words }
+
+module _ (T : Tables) (c : Counts) (a : Act) (ks : List ℕ) (n : ℕ) where
+  pub carry-long : 8 < n → CarriesWay T c a ks n c T
+  carry-long l D o S q w val y = absurd (omega (arith, l, steps-whole _ _ _ ks n o q val .0, steps-whole _ _ _ ks n o q val .1))
+
+  pub carry-cut : length ks < 3 * n → CarriesWay T c a ks n c T
+  carry-cut l D o S q w val y = absurd (cut-short _ _ _ ks n o q val l)
+
+module _ (T U : Tables) (c e : Counts) (a : Act) (ks : List ℕ) (n : ℕ) where
+  value-whole : (o : M.Operation) → a .words ≡ deedWords (o .way) → a .words ≡ deedWords (whole o)
+  unfolding deedWords
+  value-whole o q = q
+
+  same-rows : (o : M.Operation) (rs : List Row) → Parts (a .id) (a .deps .at) (a .deed) ks n o
+      → underRows (a .id) (a .deps .at) 1 (whole o) rs ≡ applyRows o rs
+  same-rows o rs q = ap₂ (λ i d. underRows i d 1 (whole o) rs) (q .id) (q .deps) ∙ sym (apply-under o rs)
+
+  pub carry-way : (way : List ℕ) → way ≡ take (3 * n) ks
+      → Descends a 1 way (record { row = 0; mark = 0; value = 0 }) c T e U → CarriesWay T c a ks n e U
+  unfolding steps
+  carry-way way part X D o S q w val y =
+      let l = fits-limits D (S .limits) in
+      let r = val .edit .reach in
+      let H = S .rows in
+      let f = subst (λ i. Fresh i (rowsOf D)) (sym (q .id)) (sound-fresh D (o .id) (S .sound) y) in
+      let d = X [] (rowsOf D) (whole o) H first-behind (part ∙ way-part _ _ _ ks n o q val) (val .edit .first, val .edit .rest)
+      (deed-whole _ _ _ ks n o q val) (value-whole o w) (omega (arith, r)) f (record {
+        rows-spare = omega (arith, r, l .places, H .rows-are);
+        marks-spare = omega (arith, r, l .marks, H .marks-are);
+        values-spare = omega (arith, l .values, H .values-are);
+      }) in
+      subst (Holds U e) (same-rows o (rowsOf D) q ∙ apply-rows o D) (d .holds)
+
+pub carry-out : (T U : Tables) (c e : Counts) (op : Operation) → CarriesWay T c (actOf op) (op .way .keys) (op .way .n) e U
+    → CarriesOut T c op e U
+carry-out T U c e op C D o S q val y = C D o S (parts-of op o q) (q .edit .words) val y
+
+-- The verdict, test by test.
+
+module _ (T : Tables) (c : Counts) (seen : Counters) (op : Operation) (b₂ : Bool) (two : Says notAbove (op .id) (op .deps .at) b₂) where
+  above : (o : M.Operation) (y : Bool) → Means op o → b₂ ≡ y → notAbove o ≡ y
+  above o y e q = sym (two o (sym (e .id)) (sym (e .deps))) ∙ q
+
+  pub judged-two : b₂ ≡ true → Judges T c seen op J.Counter
+  unfolding verdict
+  judged-two t D o S e val = rw (above o true e t)
+
+  module _ (n₂ : b₂ ≡ false) (b₃ : Bool) (three : (o : M.Operation) → o .id ≡ op .id → b₃ ≡ repeated (seen .at) o) where
+    again : (D : Document) (o : M.Operation) (y : Bool) → Stores T c (seen .at) D → Means op o → b₃ ≡ y → repeated (D .seen) o ≡ y
+    again D o y S e q = ap (λ s. repeated s o) (sym (S .counters)) ∙ (sym (three o (sym (e .id))) ∙ q)
+
+    pub judged-three : b₃ ≡ true → Judges T c seen op J.Repeat
+    unfolding verdict
+    judged-three t D o S e val = rw (above o false e n₂, again D o true S e t)
+
+    module _ (n₃ : b₃ ≡ false) (b₄ : Bool) (four′ : Says (crossed (seen .at)) (op .id) (op .deps .at) b₄) where
+      across : (D : Document) (o : M.Operation) (y : Bool) → Stores T c (seen .at) D → Means op o → b₄ ≡ y → crossed (D .seen) o ≡ y
+      across D o y S e q = ap (λ s. crossed s o) (sym (S .counters)) ∙ (sym (four′ o (sym (e .id)) (sym (e .deps))) ∙ q)
+
+      pub judged-four : b₄ ≡ true → Judges T c seen op J.OwnDeps
+      unfolding verdict
+      judged-four t D o S e val = rw (above o false e n₂, again D o false S e n₃, across D o true S e t)
+
+      module _ (n₄ : b₄ ≡ false) (b₅ : Bool) (five : b₅ ≡ ready (seen .at) (op .id) (op .deps .at)) where
+        in-time : (D : Document) (o : M.Operation) (y : Bool) → Stores T c (seen .at) D → Means op o → b₅ ≡ y → readyIn D o ≡ y
+        in-time D o y S e q = rw (← S .counters, ← e .id, ← e .deps) (sym five ∙ q)
+
+        pub judged-early : b₅ ≡ false → Judges T c seen op J.Early
+        unfolding verdict
+        judged-early t D o S e val =
+            rw (above o false e n₂, again D o false S e n₃, across D o false S e n₄, in-time D o false S e t)
+
+        pub judged-ready : (r : Judged) → b₅ ≡ true → JudgesReady T c op r → Judges T c seen op r
+        unfolding verdict
+        judged-ready r t G D o S e val =
+            rw (above o false e n₂, again D o false S e n₃, across D o false S e n₄, in-time D o true S e t)
+            (G D o (here-stores T c (seen .at) D S) e val (newer D o (again D o false S e n₃)))
+
+-- An operation that is taken.
+
+taken-cond : (a : Bool) (x y : Judged) → isTaken x ≡ false → isTaken (cond a x y) ≡ true → (a ≡ false) × (isTaken y ≡ true)
+taken-cond true x y f t = absurd (true≢false (sym t ∙ f))
+taken-cond false x y f t = (refl, t)
+
+record Taken (o : M.Operation) (D : Document) : Type 0 where
+  new : repeated (D .seen) o ≡ false
+  room : fits (apply o D) ≡ true
+
+ready-taken : (o : M.Operation) (D : Document) → isTaken (readyVerdict o D) ≡ true → fits (apply o D) ≡ true
+unfolding readyVerdict
+ready-taken o D t =
+    let a = taken-cond (astray D o) J.NoElement _ refl t in
+    let b = taken-cond (downward o) J.NotSmaller _ refl (a .1) in
+    go (fits (apply o D)) (b .1)
+  where
+    go : (y : Bool) → isTaken (cond y J.Taken J.NoRoom) ≡ true → y ≡ true
+    go true t = refl
+    go false t = absurd (true≢false (sym t))
+
+verdict-taken : (o : M.Operation) (D : Document) → isTaken (verdict o D) ≡ true → Taken o D
+unfolding verdict
+verdict-taken o D t =
+    let a = taken-cond (notAbove o) J.Counter _ refl t in
+    let b = taken-cond (repeated (D .seen) o) J.Repeat _ refl (a .1) in
+    let c = taken-cond (crossed (D .seen) o) J.OwnDeps _ refl (b .1) in
+    record { new = b .0; room = ready-taken o D (go (readyIn D o) (c .1)) }
+  where
+    go : (y : Bool) → isTaken (cond y (readyVerdict o D) J.Early) ≡ true → isTaken (readyVerdict o D) ≡ true
+    go true t = t
+    go false t = absurd (true≢false (sym t))
+
+raised-seen : (s : List ℕ) (o : M.Operation) → ValidOperation o → raised s (o .id) ≡ raise s (o .id)
+unfolding raised
+raised-seen s o val = rw (le-leb (counterOf (o .id)) 4294967295 (val .id .high))
+
+module _ (T : Tables) (c : Counts) (seen : Counters) (op : Operation) (a : Judged) (G : Judges T c seen op a) where
+  pub applies-taken : (U : Tables) (e : Counts) (after : Counters) → isTaken a ≡ true → CarriesOut T c op e U
+      → after .at ≡ raised (seen .at) (op .id) → Applies T c seen op (record { answer = a; counts = e; seen = after }) U
+  unfolding apply
+  applies-taken U e after t C r = record {
+    answers = G;
+    takes = λ D o S m val y.
+        let k = verdict-taken o D (ap isTaken (sym (G D o S m val)) ∙ t) in
+        let n = newer D o (k .new) in
+        record {
+          rows = C D o (here-stores T c (seen .at) D S) m val n;
+          counters = r ∙ (ap₂ raised (S .counters) (m .id) ∙ raised-seen (D .seen) o val);
+          sound = sound-apply o D val n (S .sound);
+          limits = k .room;
+        };
+    refuses = λ y. absurd (true≢false (sym t ∙ y));
+  }
+
+  pub applies-refused : isTaken a ≡ false → Applies T c seen op (record { answer = a; counts = c; seen = seen }) T
+  applies-refused t = record {
+    answers = G;
+    takes = λ D o S m val y. absurd (true≢false (sym y ∙ t));
+    refuses = λ y. (refl, refl, refl);
+  }

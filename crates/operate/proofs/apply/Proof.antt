@@ -1,0 +1,68 @@
+-- An operation is judged, and carried out if it is taken.
+use mathlib.Core.Path.{sym, _∙_}
+use Rattle.operate.proofs.Carrying.{applies-taken, applies-refused}
+use borrow.Author.Needs.{needs}
+use Rattle.operate.proofs.apply.Statement.{statement}
+use Rattle.operate.proofs.apply.Tie as tie
+
+judge-requires : tie.Need-judge-requires
+judge-requires c κs = search needs
+
+is-taken-requires : tie.Need-is-taken-requires
+is-taken-requires c κs = search needs
+
+carry-out-requires : tie.Need-carry-out-requires
+carry-out-requires c κs = search needs
+
+raise-requires : tie.Need-raise-requires
+raise-requires c κs = search needs
+
+same-length : tie.Need-same-length
+same-length c = search needs
+
+same-length-2 : tie.Need-same-length-2
+same-length-2 c = search needs
+
+same-length-3 : tie.Need-same-length-3
+same-length-3 c = search needs
+
+same-length-4 : tie.Need-same-length-4
+same-length-4 c = search needs
+
+returns : tie.Need-returns
+returns c =
+    applies-taken _ _ _ (c .before .before .before .before .before .before .before .before .before .before .before .before .before .before .before .before .before .before .before .before .before .before .before .before .before .args .op) _ (c .before .before .before .before .before .before .before .before .before .before .before .before .before .before .before .before .judge .ensures) _ _ _ (sym (c .before .before .before .before .before .before .before .before .before .before .before .before .before .before .before .is-taken .ensures) ∙ c .before .before .before .before .before .before .before .before .before .before .before .before .before .before .if1 .taken) (c .before .before .before .before .before .before .before .before .before .carry-out .ensures) (c .raise .ensures)
+
+same-length-5 : tie.Need-same-length-5
+same-length-5 c = search needs
+
+same-length-6 : tie.Need-same-length-6
+same-length-6 c = search needs
+
+same-length-7 : tie.Need-same-length-7
+same-length-7 c = search needs
+
+same-length-8 : tie.Need-same-length-8
+same-length-8 c = search needs
+
+returns-2 : tie.Need-returns-2
+returns-2 c = applies-refused _ _ _ (c .before .before .before .before .before .before .before .before .before .before .before .args .op) _ (c .before .before .judge .ensures) (sym (c .before .is-taken .ensures) ∙ c .if1 .left)
+
+pub apply-spec : {M : Type 1} → statement M
+apply-spec =
+    tie.close
+    (tie.spec
+    judge-requires
+    is-taken-requires
+    carry-out-requires
+    raise-requires
+    same-length
+    same-length-2
+    same-length-3
+    same-length-4
+    returns
+    same-length-5
+    same-length-6
+    same-length-7
+    same-length-8
+    returns-2)

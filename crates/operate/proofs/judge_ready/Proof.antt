@@ -1,0 +1,17 @@
+-- 8, 9 and 10, of an operation that is ready.
+use Rattle.operate.proofs.Verdicts.{judge-parts}
+use borrow.Author.Needs.{needs}
+use Rattle.operate.proofs.judge_ready.Statement.{statement}
+use Rattle.operate.proofs.judge_ready.Tie as tie
+
+slice-aggregate-judge-way : tie.Need-slice-aggregate-judge-way
+slice-aggregate-judge-way c = search needs
+
+judge-way-requires : tie.Need-judge-way-requires
+judge-way-requires c κs = search needs
+
+returns : tie.Need-returns
+returns c = judge-parts _ _ (c .before .before .before .before .before .before .before .before .before .args .op) _ (c .judge-way .ensures)
+
+pub judge-ready-spec : {M : Type 1} → statement M
+judge-ready-spec = tie.close (tie.spec slice-aggregate-judge-way judge-way-requires returns)

@@ -1,0 +1,315 @@
+// Document 01, "What is answered": an operation judged on the document as it stands, before anything is changed, and then carried out.
+use apply::Act;
+use meaning::Counters;
+use message::Deed;
+use message::Operation;
+use tables::Counts;
+use tables::Stop;
+use weigh::Weight;
+ghost use Prim.Native.Nat.{_+_, _*_, _≤_};
+ghost use mathlib.Core.Path.{_≡_};
+ghost use lib.ListN.{length, take};
+ghost use Rattle.tables.specs.Holding.{four};
+ghost use Rattle.tables.specs.Seek.{holdsIf};
+ghost use Rattle.operate.specs.Judging.{isTaken, Small, hasRoom, goesDown};
+ghost use Rattle.operate.specs.Judging.{JudgesWay, JudgesReady, Judges, CarriesWay, CarriesOut, Applies};
+
+// What an operation comes to: it is taken; it comes too early; or the refusals of document 01, by name.
+pub enum Judged {
+    Taken,
+    Early,
+    Counter,
+    Repeat,
+    OwnDeps,
+    NoElement,
+    NotSmaller,
+    NoRoom,
+}
+
+pub struct Outcome {
+    pub answer: Judged,
+    pub counts: Counts,
+    pub seen: Counters,
+}
+
+// Whether the numbers are such as memory that holds a document comes to.
+fn is_small(c: Counts, w: Weight) -> bool
+    ensures { λ r. ⌜ holdsIf r (Small c w) ⌝ }
+{
+    if c.rows > 264 {
+        return false;
+    }
+    if c.marks > 1032 {
+        return false;
+    }
+    if c.values > 257 {
+        return false;
+    }
+    if w.places > 24 {
+        return false;
+    }
+    if w.marks > 24 {
+        return false;
+    }
+    if w.values > 1 {
+        return false;
+    }
+    if w.gone_marks > 1056 {
+        return false;
+    }
+    if w.gone_values > 258 {
+        return false;
+    }
+    true
+}
+
+// 10: whether what comes has room, where what goes leaves its own.
+fn has_room(c: Counts, w: Weight) -> bool
+    requires { ⌜ Small c w ⌝ }
+    ensures { λ r. ⌜ r ≡ hasRoom c w ⌝ }
+{
+    if c.rows + w.places > 256 {
+        return false;
+    }
+    if c.marks + w.marks > 1024 + w.gone_marks {
+        return false;
+    }
+    c.values + w.values <= 256 + w.gone_values
+}
+
+// 9: whether a new element comes after one whose id isn't smaller; the words are those of the way's last key.
+fn goes_down(deed: Deed, id: u64, hi: u64, len: u64) -> bool
+    ensures { λ r. ⌜ r ≡ goesDown deed id hi len ⌝ }
+{
+    if len != 17 {
+        return false;
+    }
+    if hi < id {
+        return false;
+    }
+    apply::is_insert(deed)
+}
+
+// 8, 9, 10, of an operation that is ready; `words` are those of its way, of n keys.
+fn judge_way(
+    heads: &[u64],
+    keys: &[u64],
+    marks: &[u64],
+    values: &[u64],
+    c: Counts,
+    id: u64,
+    deps: Counters,
+    deed: Deed,
+    words: &[u64],
+    n: usize,
+) -> Judged
+    ensures { λ r. ⌜ JudgesWay (four (now (heads .entry)) (now (keys .entry)) (now (marks .entry)) (now (values .entry))) c id (deps .at) deed
+        (now (words .entry)) n r ⌝ }
+{
+    if n > 8 {
+        return Judged::NoElement;
+    }
+    if n == 0 {
+        return Judged::NoElement;
+    }
+    let end = 3 * n;
+    if end > words.len() {
+        return Judged::NoElement;
+    }
+    let w = weigh::weigh(
+        heads,
+        keys,
+        marks,
+        values,
+        c.rows,
+        Stop {
+            row: 0,
+            mark: 0,
+            value: 0,
+        },
+        1,
+        true,
+        deps,
+        deed,
+        &words[..end],
+    );
+    if !w.led {
+        return Judged::NoElement;
+    }
+    if goes_down(deed, id, words[end - 3], words[end - 1]) {
+        return Judged::NotSmaller;
+    }
+    if !is_small(c, w) {
+        return Judged::NoRoom;
+    }
+    if has_room(c, w) {
+        return Judged::Taken;
+    }
+    Judged::NoRoom
+}
+
+fn judge_ready(
+    heads: &[u64],
+    keys: &[u64],
+    marks: &[u64],
+    values: &[u64],
+    c: Counts,
+    op: Operation,
+) -> Judged
+    ensures { λ r. ⌜ JudgesReady (four (now (heads .entry)) (now (keys .entry)) (now (marks .entry)) (now (values .entry))) c op r ⌝ }
+{
+    let way = op.way;
+    let words = way.keys;
+    let deed = op.deed;
+    let deps = op.deps;
+    judge_way(
+        heads,
+        keys,
+        marks,
+        values,
+        c,
+        op.id,
+        deps,
+        deed,
+        &words,
+        way.n,
+    )
+}
+
+// 2, 3, 4; then, if it is ready, 8, 9, 10.
+pub fn judge(
+    heads: &[u64],
+    keys: &[u64],
+    marks: &[u64],
+    values: &[u64],
+    c: Counts,
+    seen: Counters,
+    op: Operation,
+) -> Judged
+    ensures { λ r. ⌜ Judges (four (now (heads .entry)) (now (keys .entry)) (now (marks .entry)) (now (values .entry))) c seen op r ⌝ }
+{
+    let id = op.id;
+    let deps = op.deps;
+    if counters::not_above(id, deps) {
+        return Judged::Counter;
+    }
+    if counters::repeated(seen, id) {
+        return Judged::Repeat;
+    }
+    if counters::crossed(seen, id, deps) {
+        return Judged::OwnDeps;
+    }
+    if !counters::ready(seen, id, deps) {
+        return Judged::Early;
+    }
+    judge_ready(heads, keys, marks, values, c, op)
+}
+
+// Carries out what o says; `words` are those of its way, of n keys.
+fn carry_way(
+    heads: &mut [u64],
+    keys: &mut [u64],
+    marks: &mut [u64],
+    values: &mut [u64],
+    c: Counts,
+    o: Act,
+    words: &[u64],
+    n: usize,
+) -> Counts
+    ensures { λ e. ⌜ CarriesWay (four (now (heads .entry)) (now (keys .entry)) (now (marks .entry)) (now (values .entry))) c o
+        (now (words .entry)) n e (four (now (heads .exit)) (now (keys .exit)) (now (marks .exit)) (now (values .exit))) ⌝ }
+{
+    if n > 8 {
+        return c;
+    }
+    let end = 3 * n;
+    if end > words.len() {
+        return c;
+    }
+    apply::descend(
+        heads,
+        keys,
+        marks,
+        values,
+        c,
+        Stop {
+            row: 0,
+            mark: 0,
+            value: 0,
+        },
+        1,
+        o,
+        &words[..end],
+    )
+}
+
+// Carries an operation out.
+pub fn carry_out(
+    heads: &mut [u64],
+    keys: &mut [u64],
+    marks: &mut [u64],
+    values: &mut [u64],
+    c: Counts,
+    op: Operation,
+) -> Counts
+    ensures { λ e. ⌜ CarriesOut (four (now (heads .entry)) (now (keys .entry)) (now (marks .entry)) (now (values .entry))) c op e
+        (four (now (heads .exit)) (now (keys .exit)) (now (marks .exit)) (now (values .exit))) ⌝ }
+{
+    let way = op.way;
+    let words = way.keys;
+    let deps = op.deps;
+    let deed = op.deed;
+    let parts = op.words;
+    let o = Act {
+        id: op.id,
+        deps,
+        deed,
+        words: parts,
+    };
+    carry_way(heads, keys, marks, values, c, o, &words, way.n)
+}
+
+fn is_taken(answer: Judged) -> bool
+    ensures { λ r. ⌜ r ≡ isTaken answer ⌝ }
+{
+    match answer {
+        Judged::Taken => true,
+        Judged::Early => false,
+        Judged::Counter => false,
+        Judged::Repeat => false,
+        Judged::OwnDeps => false,
+        Judged::NoElement => false,
+        Judged::NotSmaller => false,
+        Judged::NoRoom => false,
+    }
+}
+
+// Judges an operation, and carries it out if it is taken. A refusal changes nothing.
+pub fn apply(
+    heads: &mut [u64],
+    keys: &mut [u64],
+    marks: &mut [u64],
+    values: &mut [u64],
+    c: Counts,
+    seen: Counters,
+    op: Operation,
+) -> Outcome
+    ensures { λ r. ⌜ Applies (four (now (heads .entry)) (now (keys .entry)) (now (marks .entry)) (now (values .entry))) c seen op r
+        (four (now (heads .exit)) (now (keys .exit)) (now (marks .exit)) (now (values .exit))) ⌝ }
+{
+    let answer = judge(heads, keys, marks, values, c, seen, op);
+    if is_taken(answer) {
+        let counts = carry_out(heads, keys, marks, values, c, op);
+        let after = counters::raise(seen, op.id);
+        return Outcome {
+            answer,
+            counts,
+            seen: after,
+        };
+    }
+    Outcome {
+        answer,
+        counts: c,
+        seen,
+    }
+}
