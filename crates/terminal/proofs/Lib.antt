@@ -3,3 +3,4 @@ pub mod Picking
 pub mod Looking
 pub mod Sweeping
 pub mod Rounds
+pub mod Receiving

@@ -14,7 +14,7 @@ use Rattle.operate.specs.declared.Judged.the-variants as J
 use Rattle.terminal.specs.Verdicts.{deadly}
 
 -- the verdict by the tests 3, 4, ready, 8, 9, 10
-abbrev by : Bool → Bool → Bool → Bool → Bool → Bool → Judged
+abbrev pub by : Bool → Bool → Bool → Bool → Bool → Bool → Judged
 by r c d a w f = cond r J.Repeat (cond c J.OwnDeps (cond d (cond a J.NoElement (cond w J.NotSmaller (cond f J.Taken J.NoRoom))) J.Early))
 
 drops : (r c d a w f : Bool) → deadly (by r c d a w f) ≡ (r || c || (d && (a || w)))

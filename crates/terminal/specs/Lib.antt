@@ -1,3 +1,4 @@
 pub mod Verdicts
 pub mod Keeping
 pub mod Settling
+pub mod Promises

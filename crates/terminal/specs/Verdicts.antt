@@ -17,6 +17,16 @@ deadly J.NoElement = true
 deadly J.NotSmaller = true
 deadly J.NoRoom = false
 
+abbrev pub isEarly : Judged → Bool
+isEarly J.Taken = false
+isEarly J.Early = true
+isEarly J.Counter = false
+isEarly J.Repeat = false
+isEarly J.OwnDeps = false
+isEarly J.NoElement = false
+isEarly J.NotSmaller = false
+isEarly J.NoRoom = false
+
 -- the answer to a refusal
 abbrev pub refusalOf : Judged → Receipt
 refusalOf J.Taken = R.Layout

@@ -8,8 +8,9 @@ use tables::Counts;
 ghost use mathlib.Core.Path.{_≡_};
 ghost use Rattle.tables.specs.Holding.{four};
 ghost use Rattle.operate.specs.Judging.{isTaken};
-ghost use Rattle.terminal.specs.Verdicts.{deadly, refusalOf};
+ghost use Rattle.terminal.specs.Verdicts.{deadly, isEarly, refusalOf};
 ghost use Rattle.terminal.specs.Settling.{Looks, Sweeps, Rounds, Settles};
+ghost use Rattle.terminal.specs.Promises.{Awaits, Receiving};
 
 // What a terminal keeps beside the lent tables.
 pub struct State {
@@ -36,6 +37,12 @@ struct Settled {
     state: State,
     applied: u64,
     dropped: u64,
+}
+
+// What receiving comes to.
+pub struct Received {
+    pub answer: Receipt,
+    pub state: State,
 }
 
 // 3, 4, 8, 9.
@@ -66,6 +73,37 @@ fn is_taken(j: Judged) -> bool
         Judged::NoElement => false,
         Judged::NotSmaller => false,
         Judged::NoRoom => false,
+    }
+}
+
+fn is_early(j: Judged) -> bool
+    ensures { λ r. ⌜ r ≡ isEarly j ⌝ }
+{
+    match j {
+        Judged::Early => true,
+        Judged::Taken => false,
+        Judged::Counter => false,
+        Judged::Repeat => false,
+        Judged::OwnDeps => false,
+        Judged::NoElement => false,
+        Judged::NotSmaller => false,
+        Judged::NoRoom => false,
+    }
+}
+
+// The answer to a refusal.
+fn refusal(j: Judged) -> Receipt
+    ensures { λ r. ⌜ r ≡ refusalOf j ⌝ }
+{
+    match j {
+        Judged::Taken => Receipt::Layout,
+        Judged::Early => Receipt::Layout,
+        Judged::Counter => Receipt::Counter,
+        Judged::Repeat => Receipt::Repeat,
+        Judged::OwnDeps => Receipt::OwnDeps,
+        Judged::NoElement => Receipt::NoElement,
+        Judged::NotSmaller => Receipt::NotSmaller,
+        Judged::NoRoom => Receipt::NoRoom,
     }
 }
 
@@ -177,4 +215,55 @@ fn settle(heads: &mut [u64], keys: &mut [u64], marks: &mut [u64], values: &mut [
         }
         applied += 1;
     }
+}
+
+// An operation that comes too early: 6, 7, else it waits.
+fn wait(waiting: &mut [u64], s: State, op: Operation) -> Received
+    ensures { λ r. ⌜ Awaits (now (waiting .entry)) s op r (now (waiting .exit)) ⌝ }
+{
+    let n = s.waiting;
+    let id = op.id;
+    if waiting::waits(waiting, n, id) {
+        return Received { answer: Receipt::WaitsAlready, state: s };
+    }
+    if n >= 64 {
+        return Received { answer: Receipt::WaitingFull, state: s };
+    }
+    let more = waiting::put(waiting, n, op);
+    let counts = s.counts;
+    let seen = s.seen;
+    let state = State { counts, seen, waiting: more };
+    Received { answer: Receipt::Waiting, state }
+}
+
+// Receives a message: it is applied and the waiting ones are settled; or it waits; or it is refused, and not one lent word has changed.
+pub fn receive(heads: &mut [u64], keys: &mut [u64], marks: &mut [u64], values: &mut [u64], waiting: &mut [u64], s: State, bytes: &[u8]) -> Received
+    ensures {
+        λ r. ⌜ Receiving (four (now (heads .entry)) (now (keys .entry)) (now (marks .entry)) (now (values .entry))) (now (waiting .entry)) s
+        (now (bytes .entry)) r (four (now (heads .exit)) (now (keys .exit)) (now (marks .exit)) (now (values .exit))) (now (waiting .exit)) ⌝
+    }
+{
+    let m = message::take_message(bytes);
+    if !m.ok {
+        return Received { answer: Receipt::Layout, state: s };
+    }
+    let op = m.op;
+    let c = s.counts;
+    let seen = s.seen;
+    let o = operate::apply(heads, keys, marks, values, c, seen, op);
+    let j = o.answer;
+    if is_taken(j) {
+        let counts = o.counts;
+        let after = o.seen;
+        let next = State { counts, seen: after, waiting: s.waiting };
+        let r = settle(heads, keys, marks, values, waiting, next);
+        let state = r.state;
+        let answer = Receipt::Applied { applied: r.applied + 1, dropped: r.dropped };
+        return Received { answer, state };
+    }
+    if is_early(j) {
+        return wait(waiting, s, op);
+    }
+    let answer = refusal(j);
+    Received { answer, state: s }
 }
