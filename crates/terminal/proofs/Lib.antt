@@ -4,3 +4,4 @@ pub mod Looking
 pub mod Sweeping
 pub mod Rounds
 pub mod Receiving
+pub mod New

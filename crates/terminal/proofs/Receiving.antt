@@ -200,11 +200,11 @@ module _ (T : Tables) (t : List ℕ) (s : State) (bytes : List ℕ) (m : Message
     receives-taken y r N t′ S = record {
       receives = λ X K. reading X _ N t′ ok (λ x v e.
           let j : judge x X ≡ taken =
-              judge-sorted x X
-              ∙ sort-taken (judgeEarly x (X .waiting)) (verdict x (X .document)) (ap (λ z. isTaken z) (sym (verdict-is X K x v e)) ∙ y) in
+          judge-sorted x X
+          ∙ sort-taken (judgeEarly x (X .waiting)) (verdict x (X .document)) (ap (λ z. isTaken z) (sym (verdict-is X K x v e)) ∙ y) in
           let Y : Terminal = record { document = apply x (X .document); waiting = X .waiting } in
           let q = S .settles Y
-              (record { document = A .takes (X .document) x (K .document) e v y; waiting = K .waiting; sent = K .sent }) in
+          (record { document = A .takes (X .document) x (K .document) e v y; waiting = K .waiting; sent = K .sent }) in
           let n : r .applied + 1 ≡ suc (length (settle Y .applied)) = omega (arith, q .applied) in
           rw j (record { answers = rw (n, q .dropped) refl; keeps = q .keeps }));
       stays = λ u. absurd u;
@@ -228,8 +228,8 @@ module _ (T : Tables) (t : List ℕ) (s : State) (bytes : List ℕ) (m : Message
       receives-refused y a q = record {
         receives = λ X K. reading X _ U t ok (λ x v e.
             let j : judge x X ≡ refused (refusalOf (o .answer)) =
-                judge-sorted x X ∙ (ap (λ z. sort (judgeEarly x (X .waiting)) z) (sym (verdict-is X K x v e))
-                ∙ sort-refused (judgeEarly x (X .waiting)) (o .answer) no y) in
+            judge-sorted x X ∙ (ap (λ z. sort (judgeEarly x (X .waiting)) z) (sym (verdict-is X K x v e))
+            ∙ sort-refused (judgeEarly x (X .waiting)) (o .answer) no y) in
             rw (j, A .refuses no .0) (record { answers = q; keeps = K }));
         stays = λ u. (A .refuses no .0, refl, refl);
       }

@@ -3,19 +3,27 @@
 -- Assumes nothing: these are definitions.
 use Prim.Native.Nat.{ℕ}
 use mathlib.Core.Path.{_≡_}
-use mathlib.Core.List.{List}
+use mathlib.Core.List.{List, []}
 use Rattle.meaning.specs.Ways.{Operation}
-use Rattle.meaning.specs.Receive.{Terminal, judgeEarly, finish}
+use Rattle.meaning.specs.Receive.{Terminal, newTerminal, judgeEarly, finish}
 use Rattle.meaning.specs.Receive as Meaning
 use Rattle.meaning.specs.Promises.{Receives}
 use Rattle.theorems.specs.Invariant.{Sent}
 use Rattle.theorems.specs.Verdicts.{Refusal}
 use Rattle.tables.specs.Words.{Tables}
+use Rattle.tables.specs.Holding.{headsRoom, keysRoom, marksRoom, valuesRoom, four}
+use Rattle.words.specs.Words.{pad}
+use Rattle.waiting.specs.Waits.{room}
 use Rattle.message.specs.Means.{Means}
 use Rattle.message.specs.declared.Operation as M
 use Rattle.terminal.specs.Keeping.{Keeps}
 use Rattle.terminal.specs.declared.State.{State}
 use Rattle.terminal.specs.declared.Received.{Received}
+
+-- with this state words that are all 0 keep a new terminal
+abbrev pub Empties : State → Type 0
+Empties s =
+    Keeps (four (pad headsRoom []) (pad keysRoom []) (pad marksRoom []) (pad valuesRoom [])) (pad room []) s newTerminal
 
 -- the answer, and the terminal that is kept
 pub record Comes (U : Tables) (t′ : List ℕ) (r : Received) (e : Meaning.Received) : Type 0 where

@@ -10,7 +10,7 @@ ghost use Rattle.tables.specs.Holding.{four};
 ghost use Rattle.operate.specs.Judging.{isTaken};
 ghost use Rattle.terminal.specs.Verdicts.{deadly, isEarly, refusalOf};
 ghost use Rattle.terminal.specs.Settling.{Looks, Sweeps, Rounds, Settles};
-ghost use Rattle.terminal.specs.Promises.{Awaits, Receiving};
+ghost use Rattle.terminal.specs.Promises.{Empties, Awaits, Receiving};
 
 // What a terminal keeps beside the lent tables.
 pub struct State {
@@ -43,6 +43,23 @@ struct Settled {
 pub struct Received {
     pub answer: Receipt,
     pub state: State,
+}
+
+// The state of a new terminal, whose lent words are all 0.
+pub fn empty() -> State
+    ensures { λ r. ⌜ Empties r ⌝ }
+{
+    let counts = Counts {
+        rows: 0,
+        marks: 0,
+        values: 0,
+    };
+    let seen = Counters { at: [0u32; 8] };
+    State {
+        counts,
+        seen,
+        waiting: 0,
+    }
 }
 
 // 3, 4, 8, 9.
@@ -108,10 +125,16 @@ fn refusal(j: Judged) -> Receipt
 }
 
 // The verdict on the operation that waits at i. One that isn't ready is judged by its id and deps alone.
-fn look(heads: &[u64], keys: &[u64], marks: &[u64], values: &[u64], waiting: &[u64], s: State, i: usize) -> Judged
-    ensures {
-        λ r. ⌜ Looks (four (now (heads .entry)) (now (keys .entry)) (now (marks .entry)) (now (values .entry))) (now (waiting .entry)) s i r ⌝
-    }
+fn look(
+    heads: &[u64],
+    keys: &[u64],
+    marks: &[u64],
+    values: &[u64],
+    waiting: &[u64],
+    s: State,
+    i: usize,
+) -> Judged
+    ensures { λ r. ⌜ Looks (four (now (heads .entry)) (now (keys .entry)) (now (marks .entry)) (now (values .entry))) (now (waiting .entry)) s i r ⌝ }
 {
     let n = s.waiting;
     let seen = s.seen;
@@ -132,11 +155,16 @@ fn look(heads: &[u64], keys: &[u64], marks: &[u64], values: &[u64], waiting: &[u
 }
 
 // Drops the dead, and finds the first that can be applied.
-fn sweep(heads: &[u64], keys: &[u64], marks: &[u64], values: &[u64], waiting: &mut [u64], s: State) -> Swept
-    ensures {
-        λ r. ⌜ Sweeps (four (now (heads .entry)) (now (keys .entry)) (now (marks .entry)) (now (values .entry))) (now (waiting .entry)) s r
-        (now (waiting .exit)) ⌝
-    }
+fn sweep(
+    heads: &[u64],
+    keys: &[u64],
+    marks: &[u64],
+    values: &[u64],
+    waiting: &mut [u64],
+    s: State,
+) -> Swept
+    ensures { λ r. ⌜ Sweeps (four (now (heads .entry)) (now (keys .entry)) (now (marks .entry)) (now (values .entry))) (now (waiting .entry)) s r
+        (now (waiting .exit)) ⌝ }
 {
     let mut state = s;
     let mut found = false;
@@ -148,7 +176,11 @@ fn sweep(heads: &[u64], keys: &[u64], marks: &[u64], values: &[u64], waiting: &m
             let n = state.waiting;
             let left = waiting::take_out(waiting, n, i);
             if left >= n {
-                return Swept { state, found: false, able: 0 };
+                return Swept {
+                    state,
+                    found: false,
+                    able: 0,
+                };
             }
             state.waiting = left;
         } else {
@@ -164,43 +196,73 @@ fn sweep(heads: &[u64], keys: &[u64], marks: &[u64], values: &[u64], waiting: &m
 }
 
 // Drops the dead, and applies the first that can be applied.
-fn round(heads: &mut [u64], keys: &mut [u64], marks: &mut [u64], values: &mut [u64], waiting: &mut [u64], s: State) -> Rounded
-    ensures {
-        λ r. ⌜ Rounds (four (now (heads .entry)) (now (keys .entry)) (now (marks .entry)) (now (values .entry))) (now (waiting .entry)) s r
-        (four (now (heads .exit)) (now (keys .exit)) (now (marks .exit)) (now (values .exit))) (now (waiting .exit)) ⌝
-    }
+fn round(
+    heads: &mut [u64],
+    keys: &mut [u64],
+    marks: &mut [u64],
+    values: &mut [u64],
+    waiting: &mut [u64],
+    s: State,
+) -> Rounded
+    ensures { λ r. ⌜ Rounds (four (now (heads .entry)) (now (keys .entry)) (now (marks .entry)) (now (values .entry))) (now (waiting .entry)) s r
+        (four (now (heads .exit)) (now (keys .exit)) (now (marks .exit)) (now (values .exit))) (now (waiting .exit)) ⌝ }
 {
     let w = sweep(heads, keys, marks, values, waiting, s);
     let state = w.state;
     let n = state.waiting;
     let dropped = (s.waiting - n) as u64;
     if !w.found {
-        return Rounded { state, applied: false, dropped };
+        return Rounded {
+            state,
+            applied: false,
+            dropped,
+        };
     }
     let i = w.able;
     let op = waiting::op_at(waiting, n, i);
     let left = waiting::take_out(waiting, n, i);
     if left >= n {
-        return Rounded { state, applied: false, dropped };
+        return Rounded {
+            state,
+            applied: false,
+            dropped,
+        };
     }
     let c = state.counts;
     let seen = state.seen;
     let o = operate::apply(heads, keys, marks, values, c, seen, op);
     let counts = o.counts;
     let after = o.seen;
-    let next = State { counts, seen: after, waiting: left };
-    Rounded { state: next, applied: true, dropped }
+    let next = State {
+        counts,
+        seen: after,
+        waiting: left,
+    };
+    Rounded {
+        state: next,
+        applied: true,
+        dropped,
+    }
 }
 
 // Rounds, until one applies nothing.
-fn settle(heads: &mut [u64], keys: &mut [u64], marks: &mut [u64], values: &mut [u64], waiting: &mut [u64], s: State) -> Settled
-    ensures {
-        λ r. ⌜ Settles (four (now (heads .entry)) (now (keys .entry)) (now (marks .entry)) (now (values .entry))) (now (waiting .entry)) s r
-        (four (now (heads .exit)) (now (keys .exit)) (now (marks .exit)) (now (values .exit))) (now (waiting .exit)) ⌝
-    }
+fn settle(
+    heads: &mut [u64],
+    keys: &mut [u64],
+    marks: &mut [u64],
+    values: &mut [u64],
+    waiting: &mut [u64],
+    s: State,
+) -> Settled
+    ensures { λ r. ⌜ Settles (four (now (heads .entry)) (now (keys .entry)) (now (marks .entry)) (now (values .entry))) (now (waiting .entry)) s r
+        (four (now (heads .exit)) (now (keys .exit)) (now (marks .exit)) (now (values .exit))) (now (waiting .exit)) ⌝ }
 {
     if s.waiting > 64 {
-        return Settled { state: s, applied: 0, dropped: 0 };
+        return Settled {
+            state: s,
+            applied: 0,
+            dropped: 0,
+        };
     }
     let mut state = s;
     let mut applied: u64 = 0;
@@ -211,7 +273,11 @@ fn settle(heads: &mut [u64], keys: &mut [u64], marks: &mut [u64], values: &mut [
         state = next;
         dropped += r.dropped;
         if !r.applied {
-            return Settled { state, applied, dropped };
+            return Settled {
+                state,
+                applied,
+                dropped,
+            };
         }
         applied += 1;
     }
@@ -224,28 +290,50 @@ fn wait(waiting: &mut [u64], s: State, op: Operation) -> Received
     let n = s.waiting;
     let id = op.id;
     if waiting::waits(waiting, n, id) {
-        return Received { answer: Receipt::WaitsAlready, state: s };
+        return Received {
+            answer: Receipt::WaitsAlready,
+            state: s,
+        };
     }
     if n >= 64 {
-        return Received { answer: Receipt::WaitingFull, state: s };
+        return Received {
+            answer: Receipt::WaitingFull,
+            state: s,
+        };
     }
     let more = waiting::put(waiting, n, op);
     let counts = s.counts;
     let seen = s.seen;
-    let state = State { counts, seen, waiting: more };
-    Received { answer: Receipt::Waiting, state }
+    let state = State {
+        counts,
+        seen,
+        waiting: more,
+    };
+    Received {
+        answer: Receipt::Waiting,
+        state,
+    }
 }
 
 // Receives a message: it is applied and the waiting ones are settled; or it waits; or it is refused, and not one lent word has changed.
-pub fn receive(heads: &mut [u64], keys: &mut [u64], marks: &mut [u64], values: &mut [u64], waiting: &mut [u64], s: State, bytes: &[u8]) -> Received
-    ensures {
-        λ r. ⌜ Receiving (four (now (heads .entry)) (now (keys .entry)) (now (marks .entry)) (now (values .entry))) (now (waiting .entry)) s
-        (now (bytes .entry)) r (four (now (heads .exit)) (now (keys .exit)) (now (marks .exit)) (now (values .exit))) (now (waiting .exit)) ⌝
-    }
+pub fn receive(
+    heads: &mut [u64],
+    keys: &mut [u64],
+    marks: &mut [u64],
+    values: &mut [u64],
+    waiting: &mut [u64],
+    s: State,
+    bytes: &[u8],
+) -> Received
+    ensures { λ r. ⌜ Receiving (four (now (heads .entry)) (now (keys .entry)) (now (marks .entry)) (now (values .entry))) (now (waiting .entry)) s
+        (now (bytes .entry)) r (four (now (heads .exit)) (now (keys .exit)) (now (marks .exit)) (now (values .exit))) (now (waiting .exit)) ⌝ }
 {
     let m = message::take_message(bytes);
     if !m.ok {
-        return Received { answer: Receipt::Layout, state: s };
+        return Received {
+            answer: Receipt::Layout,
+            state: s,
+        };
     }
     let op = m.op;
     let c = s.counts;
@@ -255,10 +343,17 @@ pub fn receive(heads: &mut [u64], keys: &mut [u64], marks: &mut [u64], values: &
     if is_taken(j) {
         let counts = o.counts;
         let after = o.seen;
-        let next = State { counts, seen: after, waiting: s.waiting };
+        let next = State {
+            counts,
+            seen: after,
+            waiting: s.waiting,
+        };
         let r = settle(heads, keys, marks, values, waiting, next);
         let state = r.state;
-        let answer = Receipt::Applied { applied: r.applied + 1, dropped: r.dropped };
+        let answer = Receipt::Applied {
+            applied: r.applied + 1,
+            dropped: r.dropped,
+        };
         return Received { answer, state };
     }
     if is_early(j) {

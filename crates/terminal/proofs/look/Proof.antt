@@ -4,61 +4,41 @@ use borrow.Author.Tests.{not-true}
 use Rattle.terminal.proofs.Looking.{looks-repeat, looks-cross, looks-early, looks-whole}
 use Rattle.terminal.proofs.look.Statement.{statement}
 use Rattle.terminal.proofs.look.Tie as tie
-use Rattle.terminal.proofs.look.Reads as reads
-use Rattle.terminal.proofs.look.Lts as lts
-use Rattle.counters.proofs.crossed.Reads as crossed-reads
-use Rattle.counters.proofs.ready.Reads as ready-reads
-use Rattle.counters.proofs.repeated.Reads as repeated-reads
-use Rattle.operate.proofs.judge.Reads as judge-reads
-use Rattle.waiting.proofs.deps_at.Reads as deps-at-reads
-use Rattle.waiting.proofs.id_at.Reads as id-at-reads
-use Rattle.waiting.proofs.op_at.Reads as op-at-reads
 
--- src/lib.rt:80:9
 id-at-requires : tie.Need-id-at-requires
 id-at-requires c κs = search needs
 
--- src/lib.rt:81:9
 deps-at-requires : tie.Need-deps-at-requires
 deps-at-requires c κs = search needs
 
--- src/lib.rt:82:8
 repeated-requires : tie.Need-repeated-requires
 repeated-requires c κs = search needs
 
--- src/lib.rt:83:9
 returns : tie.Need-returns
 returns c = looks-repeat _ _ _ _ _ (c .before .before .deps-at .result) (c .before .before .before .id-at .ensures) (c .before .before .deps-at .ensures) _ (c .before .repeated .ensures) (c .if1 .taken)
 
--- src/lib.rt:85:8
 crossed-requires : tie.Need-crossed-requires
 crossed-requires c κs = search needs
 
--- src/lib.rt:86:9
 returns-2 : tie.Need-returns-2
 returns-2 c =
     looks-cross _ _ _ _ _ (c .before .before .before .before .deps-at .result) (c .before .before .before .before .before .id-at .ensures) (c .before .before .before .before .deps-at .ensures) _ (c .before .before .before .repeated .ensures) (c .before .before .if1 .left) _
     (c .before .crossed .ensures) (c .if2 .taken)
 
--- src/lib.rt:88:9
 ready-requires : tie.Need-ready-requires
 ready-requires c κs = search needs
 
--- src/lib.rt:89:9
 returns-3 : tie.Need-returns-3
 returns-3 c =
     looks-early _ _ _ _ _ (c .before .before .before .before .before .before .deps-at .result) (c .before .before .before .before .before .before .before .id-at .ensures) (c .before .before .before .before .before .before .deps-at .ensures) _ (c .before .before .before .before .before .repeated .ensures) (c .before .before .before .before .if1 .left) _
     (c .before .before .before .crossed .ensures) (c .before .before .if2 .left) _ (c .before .ready .ensures) (not-true _ (c .if3 .taken))
 
--- src/lib.rt:91:9
 op-at-requires : tie.Need-op-at-requires
 op-at-requires c κs = search needs
 
--- src/lib.rt:92:5
 judge-requires : tie.Need-judge-requires
 judge-requires c κs = search needs
 
--- src/lib.rt:72:1
 returns-4 : tie.Need-returns-4
 returns-4 c = looks-whole _ _ (c .before .before .before .before .before .before .before .before .before .before .before .before .before .before .before .before .before .args .s) _ _ _ (c .before .op-at .ensures) (c .judge .ensures)
 

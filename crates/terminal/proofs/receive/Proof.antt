@@ -6,67 +6,55 @@ use Rattle.terminal.proofs.Receiving.{receives-nothing, receives-taken,
 use borrow.Author.Needs.{needs}
 use Rattle.terminal.proofs.receive.Statement.{statement}
 use Rattle.terminal.proofs.receive.Tie as tie
-use Rattle.terminal.proofs.receive.Reads as reads
-use Rattle.terminal.proofs.receive.Lts as lts
-use Rattle.message.proofs.take_message.Reads as take-message-reads
-use Rattle.operate.proofs.apply.Reads as apply-reads
-use Rattle.terminal.proofs.is_early.Reads as is-early-reads
-use Rattle.terminal.proofs.is_taken.Reads as is-taken-reads
-use Rattle.terminal.proofs.refusal.Reads as refusal-reads
-use Rattle.terminal.proofs.settle.Reads as settle-reads
-use Rattle.terminal.proofs.wait.Reads as wait-reads
 
--- src/lib.rt:246:9
 take-message-requires : tie.Need-take-message-requires
 take-message-requires c κs = search needs
 
--- src/lib.rt:248:9
 returns : tie.Need-returns
 returns c = receives-nothing _ _ _ _ _ (c .before .before .take-message .ensures) (not-true _ (c .if1 .taken))
 
--- src/lib.rt:253:9
 apply-requires : tie.Need-apply-requires
 apply-requires c κs = search needs
 
--- src/lib.rt:255:8
 is-taken-requires : tie.Need-is-taken-requires
 is-taken-requires c κs = search needs
 
--- src/lib.rt:259:13
 settle-requires : tie.Need-settle-requires
 settle-requires c κs = search needs
 
--- src/lib.rt:261:50
 add-t42 : tie.Need-add-t42
 add-t42 c = search needs
 
--- src/lib.rt:262:9
 same-length : tie.Need-same-length
 same-length c =
-    omega (arith, (c .before .before .before .before .before .before .before .before .before .before .before .before .settle .kept),
-    (c .before .before .before .before .before .before .before .before .before .before .before .before .before .before .before .before .before .before .before .before .before .before .before .before .before .before .before .before .before .before .apply .kept))
+    omega (
+      arith,
+      (c .before .before .before .before .before .before .before .before .before .before .before .before .settle .kept),
+      (c .before .before .before .before .before .before .before .before .before .before .before .before .before .before .before .before .before .before .before .before .before .before .before .before .before .before .before .before .before .before .apply .kept),
+    )
 
--- src/lib.rt:262:9
 same-length-2 : tie.Need-same-length-2
 same-length-2 c =
-    omega (arith, (c .before .before .before .before .before .before .before .before .before .before .before .before .settle .kept),
-    (c .before .before .before .before .before .before .before .before .before .before .before .before .before .before .before .before .before .before .before .before .before .before .before .before .before .before .before .before .before .before .apply .kept))
+    omega (
+      arith,
+      (c .before .before .before .before .before .before .before .before .before .before .before .before .settle .kept),
+      (c .before .before .before .before .before .before .before .before .before .before .before .before .before .before .before .before .before .before .before .before .before .before .before .before .before .before .before .before .before .before .apply .kept),
+    )
 
--- src/lib.rt:262:9
 same-length-3 : tie.Need-same-length-3
 same-length-3 c =
-    omega (arith, (c .before .before .before .before .before .before .before .before .before .before .before .before .settle .kept),
-    (c .before .before .before .before .before .before .before .before .before .before .before .before .before .before .before .before .before .before .before .before .before .before .before .before .before .before .before .before .before .before .apply .kept))
+    omega (
+      arith,
+      (c .before .before .before .before .before .before .before .before .before .before .before .before .settle .kept),
+      (c .before .before .before .before .before .before .before .before .before .before .before .before .before .before .before .before .before .before .before .before .before .before .before .before .before .before .before .before .before .before .apply .kept),
+    )
 
--- src/lib.rt:262:9
 same-length-4 : tie.Need-same-length-4
 same-length-4 c = search needs
 
--- src/lib.rt:262:9
 same-length-5 : tie.Need-same-length-5
 same-length-5 c = search needs
 
--- src/lib.rt:262:9
 returns-2 : tie.Need-returns-2
 returns-2 c =
     receives-taken _ _ _ _ _
@@ -77,35 +65,27 @@ returns-2 c =
     ∙ (c .before .before .before .before .before .before .before .before .before .before .before .before .before .before .before .before .before .before .before .before .if2 .taken)) _ _ _
     (c .before .before .before .before .before .before .before .before .before .before .before .before .settle .ensures)
 
--- src/lib.rt:264:8
 is-early-requires : tie.Need-is-early-requires
 is-early-requires c κs = search needs
 
--- src/lib.rt:265:9
 wait-requires : tie.Need-wait-requires
 wait-requires c κs = search needs
 
--- src/lib.rt:265:9
 same-length-6 : tie.Need-same-length-6
 same-length-6 c = search needs
 
--- src/lib.rt:265:9
 same-length-7 : tie.Need-same-length-7
 same-length-7 c = search needs
 
--- src/lib.rt:265:9
 same-length-8 : tie.Need-same-length-8
 same-length-8 c = search needs
 
--- src/lib.rt:265:9
 same-length-9 : tie.Need-same-length-9
 same-length-9 c = search needs
 
--- src/lib.rt:265:9
 same-length-10 : tie.Need-same-length-10
 same-length-10 c = search needs
 
--- src/lib.rt:265:9
 returns-3 : tie.Need-returns-3
 returns-3 c =
     receives-early _ _ _ _ _
@@ -115,27 +95,21 @@ returns-3 c =
     (sym (c .before .before .before .before .before .before .before .is-taken .ensures) ∙ (c .before .before .before .before .before .before .if2 .left))
     (sym (c .before .before .before .before .before .is-early .ensures) ∙ (c .before .before .before .before .if3 .taken)) _ _ (c .before .before .wait .ensures)
 
--- src/lib.rt:267:9
 refusal-requires : tie.Need-refusal-requires
 refusal-requires c κs = search needs
 
--- src/lib.rt:240:1
 same-length-11 : tie.Need-same-length-11
 same-length-11 c = search needs
 
--- src/lib.rt:240:1
 same-length-12 : tie.Need-same-length-12
 same-length-12 c = search needs
 
--- src/lib.rt:240:1
 same-length-13 : tie.Need-same-length-13
 same-length-13 c = search needs
 
--- src/lib.rt:240:1
 same-length-14 : tie.Need-same-length-14
 same-length-14 c = search needs
 
--- src/lib.rt:240:1
 returns-4 : tie.Need-returns-4
 returns-4 c =
     receives-refused _ _ _ _ _

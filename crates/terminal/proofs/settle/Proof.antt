@@ -11,9 +11,6 @@ use Rattle.terminal.proofs.Rounds.{Underway, underway, goes-on, comes-t
 use borrow.Author.Needs.{needs}
 use Rattle.terminal.proofs.settle.Statement.{statement}
 use Rattle.terminal.proofs.settle.Tie as tie
-use Rattle.terminal.proofs.settle.Reads as reads
-use Rattle.terminal.proofs.settle.Lts as lts
-use Rattle.terminal.proofs.round.Reads as round-reads
 
 abbrev Inv-loop : tie.InvT-loop
 Inv-loop heads₀ keys₀ marks₀ values₀ waiting₀ state₀ applied₀ dropped₀ heads keys marks values waiting state applied dropped =
@@ -27,64 +24,56 @@ abbrev μ-loop : tie.MeasureT-loop
 μ-loop heads₀ keys₀ marks₀ values₀ waiting₀ state₀ applied₀ dropped₀ heads keys marks values waiting state applied dropped =
     state .waiting
 
--- src/lib.rt:164:9
 returns : tie.Need-returns Inv-loop μ-loop
 returns c = record { few = omega arith; settles = λ X K. absurd (omega (arith, K .waiting .fit, c .if1 .taken)) }
 
--- src/lib.rt:169:5
 loop-holds : tie.Need-loop-holds Inv-loop μ-loop
 loop-holds c = (omega arith, c .if1 .left, (refl, refl, refl, refl, refl), λ X K. underway X _ _ _ K)
 
--- src/lib.rt:170:13
 round-requires : tie.Need-round-requires Inv-loop μ-loop
 round-requires c κs = search needs
 
--- src/lib.rt:173:9
 add-dropped : tie.Need-add-dropped Inv-loop μ-loop
 add-dropped c = omega (arith, c .before .before .before .before .before .before .before .before .before .before .before .before .before .before .before .before .before .before .loop .inv .0, c .before .before .before .before .before .before .before .before .before .before .before .before .before .before .before .before .before .before .loop .inv .1, c .before .before .before .before .before .before .before .before .before .before .before .before .round .ensures .fewer)
 
--- src/lib.rt:175:13
 same-length : tie.Need-same-length Inv-loop μ-loop
 same-length c = omega (arith, c .before .before .before .before .before .before .before .before .before .before .before .before .before .before .before .before .before .before .before .before .loop .inv .2 .0, c .before .before .before .before .before .before .before .before .before .before .before .before .before .before .round .kept)
 
--- src/lib.rt:175:13
 same-length-2 : tie.Need-same-length-2 Inv-loop μ-loop
 same-length-2 c = omega (arith, c .before .before .before .before .before .before .before .before .before .before .before .before .before .before .before .before .before .before .before .before .loop .inv .2 .1, c .before .before .before .before .before .before .before .before .before .before .before .before .before .before .round .kept)
 
--- src/lib.rt:175:13
 same-length-3 : tie.Need-same-length-3 Inv-loop μ-loop
 same-length-3 c = omega (arith, c .before .before .before .before .before .before .before .before .before .before .before .before .before .before .before .before .before .before .before .before .loop .inv .2 .2, c .before .before .before .before .before .before .before .before .before .before .before .before .before .before .round .kept)
 
--- src/lib.rt:175:13
 same-length-4 : tie.Need-same-length-4 Inv-loop μ-loop
 same-length-4 c = omega (arith, c .before .before .before .before .before .before .before .before .before .before .before .before .before .before .before .before .before .before .before .before .loop .inv .2 .3, c .before .before .before .before .before .before .before .before .before .before .before .before .before .before .round .kept)
 
--- src/lib.rt:175:13
 same-length-5 : tie.Need-same-length-5 Inv-loop μ-loop
 same-length-5 c = omega (arith, c .before .before .before .before .before .before .before .before .before .before .before .before .before .before .before .before .before .before .before .before .loop .inv .2 .4, c .before .before .before .before .before .before .before .before .before .before .before .before .before .before .round .kept)
 
--- src/lib.rt:175:13
 returns-2 : tie.Need-returns-2 Inv-loop μ-loop
 returns-2 c = record {
   few = omega (arith, c .before .before .before .before .before .before .before .before .before .before .before .before .before .before .before .before .before .before .before .before .loop .inv .0, c .before .before .before .before .before .before .before .before .before .before .before .before .before .before .before .before .before .before .before .before .loop .inv .1);
   settles = λ X K. comes-to-rest X _ _ _ _ _ _ _ _ (c .before .before .before .before .before .before .before .before .before .before .before .before .before .before .round .ensures) (c .before .before .before .before .before .before .before .before .before .before .before .before .before .before .before .before .before .before .before .before .loop .inv .3 X K) (not-true _ (c .if2 .taken));
 }
 
--- src/lib.rt:177:9
 add-applied : tie.Need-add-applied Inv-loop μ-loop
 add-applied c = omega (arith, c .before .before .before .before .before .before .before .before .before .before .before .before .before .before .before .before .before .before .before .before .loop .inv .0, c .before .before .before .before .before .before .before .before .before .before .before .before .before .before .before .before .before .before .before .before .loop .inv .1)
 
--- src/lib.rt:169:5
 loop-less : tie.Need-loop-less Inv-loop μ-loop
 loop-less c = omega (arith, c .before .before .before .before .before .before .before .before .before .before .before .before .before .before .round .ensures .less (not-false _ (c .if2 .left)))
 
--- src/lib.rt:169:5
 loop-again : tie.Need-loop-again Inv-loop μ-loop
 loop-again c = (
   omega (arith, c .before .before .before .before .before .before .before .before .before .before .before .before .before .before .before .before .before .before .before .before .loop .inv .0, c .before .before .before .before .before .before .before .before .before .before .before .before .before .before .round .ensures .less (not-false _ (c .if2 .left))),
   c .before .before .before .before .before .before .before .before .before .before .before .before .before .before .before .before .before .before .before .before .loop .inv .1,
-  (omega (arith, c .before .before .before .before .before .before .before .before .before .before .before .before .before .before .before .before .before .before .before .before .loop .inv .2 .0, c .before .before .before .before .before .before .before .before .before .before .before .before .before .before .round .kept), omega (arith, c .before .before .before .before .before .before .before .before .before .before .before .before .before .before .before .before .before .before .before .before .loop .inv .2 .1, c .before .before .before .before .before .before .before .before .before .before .before .before .before .before .round .kept), omega (arith, c .before .before .before .before .before .before .before .before .before .before .before .before .before .before .before .before .before .before .before .before .loop .inv .2 .2, c .before .before .before .before .before .before .before .before .before .before .before .before .before .before .round .kept),
-  omega (arith, c .before .before .before .before .before .before .before .before .before .before .before .before .before .before .before .before .before .before .before .before .loop .inv .2 .3, c .before .before .before .before .before .before .before .before .before .before .before .before .before .before .round .kept), omega (arith, c .before .before .before .before .before .before .before .before .before .before .before .before .before .before .before .before .before .before .before .before .loop .inv .2 .4, c .before .before .before .before .before .before .before .before .before .before .before .before .before .before .round .kept)),
+  (
+    omega (arith, c .before .before .before .before .before .before .before .before .before .before .before .before .before .before .before .before .before .before .before .before .loop .inv .2 .0, c .before .before .before .before .before .before .before .before .before .before .before .before .before .before .round .kept),
+    omega (arith, c .before .before .before .before .before .before .before .before .before .before .before .before .before .before .before .before .before .before .before .before .loop .inv .2 .1, c .before .before .before .before .before .before .before .before .before .before .before .before .before .before .round .kept),
+    omega (arith, c .before .before .before .before .before .before .before .before .before .before .before .before .before .before .before .before .before .before .before .before .loop .inv .2 .2, c .before .before .before .before .before .before .before .before .before .before .before .before .before .before .round .kept),
+    omega (arith, c .before .before .before .before .before .before .before .before .before .before .before .before .before .before .before .before .before .before .before .before .loop .inv .2 .3, c .before .before .before .before .before .before .before .before .before .before .before .before .before .before .round .kept),
+    omega (arith, c .before .before .before .before .before .before .before .before .before .before .before .before .before .before .before .before .before .before .before .before .loop .inv .2 .4, c .before .before .before .before .before .before .before .before .before .before .before .before .before .before .round .kept),
+  ),
   λ X K. goes-on X _ _ _ _ _ _ _ _ (c .before .before .before .before .before .before .before .before .before .before .before .before .before .before .round .ensures) (c .before .before .before .before .before .before .before .before .before .before .before .before .before .before .before .before .before .before .before .before .loop .inv .3 X K) (not-false _ (c .if2 .left)),
 )
 

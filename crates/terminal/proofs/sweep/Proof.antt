@@ -11,12 +11,6 @@ use Rattle.terminal.proofs.Sweeping.{Sweeping, begins, ends, drops, one
 use borrow.Author.Needs.{needs}
 use Rattle.terminal.proofs.sweep.Statement.{statement}
 use Rattle.terminal.proofs.sweep.Tie as tie
-use Rattle.terminal.proofs.sweep.Reads as reads
-use Rattle.terminal.proofs.sweep.Lts as lts
-use Rattle.terminal.proofs.is_dead.Reads as is-dead-reads
-use Rattle.terminal.proofs.is_taken.Reads as is-taken-reads
-use Rattle.terminal.proofs.look.Reads as look-reads
-use Rattle.waiting.proofs.take_out.Reads as take-out-reads
 
 abbrev Inv-loop : tie.InvT-loop
 Inv-loop heads keys marks values waiting₀ state₀ found₀ able₀ i₀ waiting state found able i =
@@ -26,27 +20,21 @@ Inv-loop heads keys marks values waiting₀ state₀ found₀ able₀ i₀ waiti
 abbrev μ-loop : tie.MeasureT-loop
 μ-loop heads keys marks values waiting₀ state₀ found₀ able₀ i₀ waiting state found able i = state .waiting - i
 
--- src/lib.rt:106:5
 loop-holds : tie.Need-loop-holds Inv-loop μ-loop
 loop-holds c = (omega arith, refl, λ X K. begins _ _ _ X K)
 
--- src/lib.rt:107:13
 look-requires : tie.Need-look-requires Inv-loop μ-loop
 look-requires c κs = search needs
 
--- src/lib.rt:108:12
 is-dead-requires : tie.Need-is-dead-requires Inv-loop μ-loop
 is-dead-requires c κs = search needs
 
--- src/lib.rt:110:17
 take-out-requires : tie.Need-take-out-requires Inv-loop μ-loop
 take-out-requires c κs = search needs
 
--- src/lib.rt:112:17
 same-length : tie.Need-same-length Inv-loop μ-loop
 same-length c = search needs
 
--- src/lib.rt:112:17
 returns : tie.Need-returns Inv-loop μ-loop
 returns c = record {
   fewer = c .before .before .before .before .before .before .before .before .before .before .before .loop .inv .0;
@@ -54,11 +42,9 @@ returns c = record {
       absurd (omega (arith, c .if3 .taken, one-less _ _ _ X _ _ _ _ (c .before .before .before .before .before .before .before .look .ensures) (c .before .before .before .before .before .before .before .before .before .before .before .loop .inv .2 X K) (c .before .before .before .before .before .before .before .before .before .if1 .taken) _ _ (c .before .before .before .take-out .ensures)));
 }
 
--- src/lib.rt:106:5
 loop-less : tie.Need-loop-less Inv-loop μ-loop
 loop-less c = search needs
 
--- src/lib.rt:106:5
 loop-again : tie.Need-loop-again Inv-loop μ-loop
 loop-again c = (
   omega (arith, c .before .before .before .before .before .before .before .before .before .before .before .loop .inv .0, c .if3 .left),
@@ -67,19 +53,15 @@ loop-again c = (
       drops _ _ _ X _ _ _ _ (c .before .before .before .before .before .before .before .look .ensures) (c .before .before .before .before .before .before .before .before .before .before .before .loop .inv .2 X K) (c .before .before .before .before .before .before .before .before .before .if1 .taken) _ _ (c .before .before .before .take-out .ensures) (sym (c .before .before .before .before .before .before .is-dead .ensures) ∙ c .before .before .before .before .before .if2 .taken),
 )
 
--- src/lib.rt:117:13
 add-i : tie.Need-add-i Inv-loop μ-loop
 add-i c = search needs
 
--- src/lib.rt:119:17
 is-taken-requires : tie.Need-is-taken-requires Inv-loop μ-loop
 is-taken-requires c κs = search needs
 
--- src/lib.rt:106:5
 loop-less-2 : tie.Need-loop-less-2 Inv-loop μ-loop
 loop-less-2 c = search needs
 
--- src/lib.rt:106:5
 loop-again-2 : tie.Need-loop-again-2 Inv-loop μ-loop
 loop-again-2 c = (
   c .before .before .before .before .before .before .before .before .loop .inv .0,
@@ -89,11 +71,9 @@ loop-again-2 c = (
       (c .is-taken .ensures),
 )
 
--- src/lib.rt:106:5
 loop-less-3 : tie.Need-loop-less-3 Inv-loop μ-loop
 loop-less-3 c = search needs
 
--- src/lib.rt:106:5
 loop-again-3 : tie.Need-loop-again-3 Inv-loop μ-loop
 loop-again-3 c = (
   c .before .before .before .before .before .before .before .loop .inv .0,
@@ -102,11 +82,9 @@ loop-again-3 c = (
       passes _ _ _ X _ _ _ _ (c .before .before .before .look .ensures) (c .before .before .before .before .before .before .before .loop .inv .2 X K) (c .before .before .before .before .before .if1 .taken) (sym (c .before .before .is-dead .ensures) ∙ c .before .if2 .left) (not-false _ (c .if4 .left)),
 )
 
--- src/lib.rt:96:1
 same-length-2 : tie.Need-same-length-2 Inv-loop μ-loop
 same-length-2 c = search needs
 
--- src/lib.rt:96:1
 returns-2 : tie.Need-returns-2 Inv-loop μ-loop
 returns-2 c = record {
   fewer = c .before .before .loop .inv .0;

@@ -3,40 +3,28 @@ use Rattle.terminal.proofs.Receiving.{awaits-already, awaits-full, awai
 use borrow.Author.Needs.{needs}
 use Rattle.terminal.proofs.wait.Statement.{statement}
 use Rattle.terminal.proofs.wait.Tie as tie
-use Rattle.terminal.proofs.wait.Reads as reads
-use Rattle.terminal.proofs.wait.Lts as lts
-use Rattle.waiting.proofs.put.Reads as put-reads
-use Rattle.waiting.proofs.waits.Reads as waits-reads
 
--- src/lib.rt:226:8
 waits-requires : tie.Need-waits-requires
 waits-requires c κs = search needs
 
--- src/lib.rt:227:9
 same-length : tie.Need-same-length
 same-length c = search needs
 
--- src/lib.rt:227:9
 returns : tie.Need-returns
 returns c = awaits-already _ _ (c .before .before .before .before .args .op) _ (c .before .waits .ensures) (c .if1 .taken)
 
--- src/lib.rt:230:9
 same-length-2 : tie.Need-same-length-2
 same-length-2 c = search needs
 
--- src/lib.rt:230:9
 returns-2 : tie.Need-returns-2
 returns-2 c = awaits-full _ _ (c .before .before .before .before .before .args .op) _ (c .before .before .waits .ensures) (c .before .if1 .left) (c .if2 .taken)
 
--- src/lib.rt:232:9
 put-requires : tie.Need-put-requires
 put-requires c κs = search needs
 
--- src/lib.rt:221:1
 same-length-3 : tie.Need-same-length-3
 same-length-3 c = search needs
 
--- src/lib.rt:221:1
 returns-3 : tie.Need-returns-3
 returns-3 c =
     awaits-put _ (c .before .before .before .before .before .before .before .before .before .before .before .args .s)
