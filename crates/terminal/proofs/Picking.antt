@@ -89,7 +89,8 @@ module _ (X : Terminal) where
   abbrev pub gone : ℕ
   gone = length (X .waiting) - length (left X)
 
-  pub settle-over : first (keep (able (X .document)) (left X)) ≡ nobody → settle X ≡ record { terminal = rid X; applied = []; dropped = gone }
+  pub settle-over : first (keep (able (X .document)) (left X)) ≡ nobody
+      → settle X ≡ record { terminal = rid X; applied = []; dropped = gone }
   unfolding settle settleIn onward
   settle-over e = rw e
 
@@ -97,7 +98,8 @@ module _ (X : Terminal) where
   abbrev pub after : (o : Operation) → Settled → Settled
   after o r = record { terminal = r .terminal; applied = o ∷ r .applied; dropped = gone + r .dropped }
 
-  opens : (o : Operation) → first (keep (able (X .document)) (left X)) ≡ picked o → settle X ≡ after o (settleIn (length (X .waiting)) (next X o))
+  opens : (o : Operation) → first (keep (able (X .document)) (left X)) ≡ picked o
+      → settle X ≡ after o (settleIn (length (X .waiting)) (next X o))
   unfolding settle settleIn onward
   opens o e = rw e
 

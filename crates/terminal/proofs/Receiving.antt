@@ -14,7 +14,8 @@ use Rattle.meaning.specs.Ways.{Operation}
 use Rattle.meaning.specs.Valid.{ValidOperation}
 use Rattle.meaning.specs.Message.{message}
 use Rattle.meaning.specs.Judge.{notAbove, repeated, crossed, astray, downward}
-use Rattle.meaning.specs.Receive.{Terminal, readyIn, waits, Verdict, refused, kept, taken, judgeReady, judgeEarly, judge, finish, receive, settle}
+use Rattle.meaning.specs.Receive.{Terminal, readyIn, waits, Verdict, refused, kept, taken, judgeReady}
+use Rattle.meaning.specs.Receive.{judgeEarly, judge, finish, receive, settle}
 use Rattle.meaning.specs.Promises.{Says, says, saysNothing}
 use Rattle.meaning.specs.declared.Receipt.{Receipt}
 use Rattle.meaning.specs.declared.Receipt.the-variants as R

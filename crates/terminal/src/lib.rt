@@ -134,7 +134,8 @@ fn look(
     s: State,
     i: usize,
 ) -> Judged
-    ensures { λ r. ⌜ Looks (four (now (heads .entry)) (now (keys .entry)) (now (marks .entry)) (now (values .entry))) (now (waiting .entry)) s i r ⌝ }
+    ensures { λ r. ⌜ Looks (four (now (heads .entry)) (now (keys .entry)) (now (marks .entry)) (now (values .entry)))
+        (now (waiting .entry)) s i r ⌝ }
 {
     let n = s.waiting;
     let seen = s.seen;
@@ -163,7 +164,8 @@ fn sweep(
     waiting: &mut [u64],
     s: State,
 ) -> Swept
-    ensures { λ r. ⌜ Sweeps (four (now (heads .entry)) (now (keys .entry)) (now (marks .entry)) (now (values .entry))) (now (waiting .entry)) s r
+    ensures { λ r. ⌜ Sweeps (four (now (heads .entry)) (now (keys .entry)) (now (marks .entry)) (now (values .entry)))
+        (now (waiting .entry)) s r
         (now (waiting .exit)) ⌝ }
 {
     let mut state = s;
@@ -204,7 +206,8 @@ fn round(
     waiting: &mut [u64],
     s: State,
 ) -> Rounded
-    ensures { λ r. ⌜ Rounds (four (now (heads .entry)) (now (keys .entry)) (now (marks .entry)) (now (values .entry))) (now (waiting .entry)) s r
+    ensures { λ r. ⌜ Rounds (four (now (heads .entry)) (now (keys .entry)) (now (marks .entry)) (now (values .entry)))
+        (now (waiting .entry)) s r
         (four (now (heads .exit)) (now (keys .exit)) (now (marks .exit)) (now (values .exit))) (now (waiting .exit)) ⌝ }
 {
     let w = sweep(heads, keys, marks, values, waiting, s);
@@ -254,7 +257,8 @@ fn settle(
     waiting: &mut [u64],
     s: State,
 ) -> Settled
-    ensures { λ r. ⌜ Settles (four (now (heads .entry)) (now (keys .entry)) (now (marks .entry)) (now (values .entry))) (now (waiting .entry)) s r
+    ensures { λ r. ⌜ Settles (four (now (heads .entry)) (now (keys .entry)) (now (marks .entry)) (now (values .entry)))
+        (now (waiting .entry)) s r
         (four (now (heads .exit)) (now (keys .exit)) (now (marks .exit)) (now (values .exit))) (now (waiting .exit)) ⌝ }
 {
     if s.waiting > 64 {
@@ -325,8 +329,10 @@ pub fn receive(
     s: State,
     bytes: &[u8],
 ) -> Received
-    ensures { λ r. ⌜ Receiving (four (now (heads .entry)) (now (keys .entry)) (now (marks .entry)) (now (values .entry))) (now (waiting .entry)) s
-        (now (bytes .entry)) r (four (now (heads .exit)) (now (keys .exit)) (now (marks .exit)) (now (values .exit))) (now (waiting .exit)) ⌝ }
+    ensures { λ r. ⌜ Receiving (four (now (heads .entry)) (now (keys .entry)) (now (marks .entry)) (now (values .entry)))
+        (now (waiting .entry)) s
+        (now (bytes .entry)) r (four (now (heads .exit)) (now (keys .exit)) (now (marks .exit)) (now (values .exit)))
+        (now (waiting .exit)) ⌝ }
 {
     let m = message::take_message(bytes);
     if !m.ok {
