@@ -21,8 +21,11 @@ rust-test:
 	cd rust && cargo build --release --quiet
 	tools/streams rust/target/release/merge
 
-# rt follows no link, so a program's input and output are copies: of the kept vectors, and of the message that bench/reads times
+# rt follows no link, so a program's input and output are copies: of the kept vectors, and of what bench/reads and bench/applies time
 same:
 	cmp vectors/layout.script crates/verdicts/stdin
 	cmp vectors/layout.answers crates/verdicts/stdout
+	cmp vectors/applied.script crates/applies/stdin
+	cmp vectors/applied.answers crates/applies/stdout
 	cmp bench/typical.message crates/readings/stdin
+	rust/target/release/vectors bench typical 10 | cmp - crates/works/stdin

@@ -100,7 +100,7 @@ front (suc m) (x ∷ k) (y ∷ j) b c = go (tri x y) (front m k j (b .1) (c .1))
     go (same p) r = both p r
     go (more p) r = behind (let s = step-up y x (weight m) p in let t = pack-small m j (c .1) in omega arith) (turn-more x y k j p)
 
-bytes-drop : (m : ℕ) (k : List ℕ) → Bytes k → Bytes (drop m k)
+pub bytes-drop : (m : ℕ) (k : List ℕ) → Bytes k → Bytes (drop m k)
 bytes-drop zero k h = h
 bytes-drop (suc m) [] h = tt
 bytes-drop (suc m) (x ∷ k) h = bytes-drop m k (h .1)

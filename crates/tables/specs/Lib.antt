@@ -6,3 +6,5 @@ pub mod Holding
 pub mod Parts
 pub mod Stands
 pub mod Values
+pub mod Saying
+pub mod Once

@@ -50,7 +50,7 @@ unfolding headsOf
 heads-length [] = refl
 heads-length (r ∷ a) = omega (arith, heads-length a)
 
-three-words : (p : Spot) → length (spotWords p) ≡ 3
+pub three-words : (p : Spot) → length (spotWords p) ≡ 3
 three-words (inMap k) = refl
 three-words (inList i) = refl
 

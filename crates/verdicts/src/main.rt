@@ -1,79 +1,7 @@
 // Answers the layout calls of a replay script (docs/REPLAY.md), read from standard input: a line for each call, its name and 0 if the
 // block is in the layout that is asked for, else 1. The gate compares what it prints with the second implementation's answers.
-use decimal::Number;
 use libc::STDOUT_FILENO;
 use readers::Past;
-
-// The block of a call: the part of the script from one byte up to another, and where the next call begins. Not ok: the call is another one.
-struct Call {
-    ok: bool,
-    from: usize,
-    to: usize,
-    next: usize,
-}
-
-// The block of a call with this name.
-fn block(s: &[u8], a: usize, name: &[u8]) -> Call {
-    let t = decimal::powers();
-    let Past::At(n) = readers::take_text(s, a, name) else {
-        return Call {
-            ok: false,
-            from: 0,
-            to: 0,
-            next: 0,
-        };
-    };
-    let Number::Value { value, next: end } = decimal::take_decimal(s, n, 65536, &t) else {
-        return Call {
-            ok: false,
-            from: 0,
-            to: 0,
-            next: 0,
-        };
-    };
-    let Past::At(from) = readers::take_byte(s, end, b'\n') else {
-        return Call {
-            ok: false,
-            from: 0,
-            to: 0,
-            next: 0,
-        };
-    };
-    let len = value as usize;
-    if s.len() <= from {
-        return Call {
-            ok: false,
-            from: 0,
-            to: 0,
-            next: 0,
-        };
-    }
-    if s.len() - from <= len {
-        return Call {
-            ok: false,
-            from: 0,
-            to: 0,
-            next: 0,
-        };
-    }
-    Call {
-        ok: true,
-        from,
-        to: from + len,
-        next: from + len + 1,
-    }
-}
-
-// The bytes from one place up to another.
-fn part(s: &[u8], from: usize, to: usize) -> &[u8] {
-    if to < from {
-        return &s[..0];
-    }
-    if s.len() < to {
-        return &s[..0];
-    }
-    &s[from..to]
-}
 
 // The answer to a call with this name.
 fn say(name: &[u8], ok: bool) {
@@ -111,29 +39,29 @@ fn answer(s: &[u8], a: usize) -> usize {
         io::write_all(STDOUT_FILENO, b"reset 0 0 0\n");
         return next;
     }
-    let m = block(s, a, b"ismessage ");
+    let m = script::block(s, a, b"ismessage ");
     if m.ok {
-        say_message(part(s, m.from, m.to));
+        say_message(script::part(s, m.from, m.to));
         return m.next;
     }
-    let l = block(s, a, b"islines ");
+    let l = script::block(s, a, b"islines ");
     if l.ok {
-        say_lines(part(s, l.from, l.to));
+        say_lines(script::part(s, l.from, l.to));
         return l.next;
     }
-    let v = block(s, a, b"isvaluesway ");
+    let v = script::block(s, a, b"isvaluesway ");
     if v.ok {
-        say_values_way(part(s, v.from, v.to));
+        say_values_way(script::part(s, v.from, v.to));
         return v.next;
     }
-    let k = block(s, a, b"iskeysway ");
+    let k = script::block(s, a, b"iskeysway ");
     if k.ok {
-        say_keys_way(part(s, k.from, k.to));
+        say_keys_way(script::part(s, k.from, k.to));
         return k.next;
     }
-    let e = block(s, a, b"iselementway ");
+    let e = script::block(s, a, b"iselementway ");
     if e.ok {
-        say_element_way(part(s, e.from, e.to));
+        say_element_way(script::part(s, e.from, e.to));
         return e.next;
     }
     a

@@ -1,6 +1,7 @@
 //! Scripts of calls and the answers to them, by the second reading of document 01.
 //! The formats are fixed in docs/REPLAY.md.
 
+pub mod benches;
 pub mod call;
 pub mod counts;
 pub mod fresh;

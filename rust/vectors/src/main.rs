@@ -6,12 +6,13 @@ use std::process::ExitCode;
 use std::{env, fs};
 
 use vectors::counts::Counts;
-use vectors::{fresh, kept, kinds, replay};
+use vectors::{benches, fresh, kept, kinds, replay};
 
 const USAGE: &str = "\
 vectors script KIND SEED    a script of that kind on standard output
 vectors answers             plays the script on standard input, its answers on standard output
 vectors fresh SEED COUNT    a stream of COUNT messages for merge on standard output
+vectors bench NAME COUNT    a script that bench/applies times: typical, clearing, insert or assign
 vectors keep DIR            writes the kept files to DIR
 vectors counts DIR          how often each answer number stands in the answers kept in DIR
 kinds:";
@@ -53,6 +54,12 @@ fn run(arguments: &[&str]) -> io::Result<bool> {
                 return Ok(false);
             };
             print(&fresh::stream(seed, count))?;
+        }
+        ["bench", name, count] => {
+            let Some(script) = count.parse().ok().and_then(|count| benches::script(name, count)) else {
+                return Ok(false);
+            };
+            print(&script)?;
         }
         ["keep", folder] => {
             for (name, bytes) in kept::files() {

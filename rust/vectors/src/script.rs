@@ -4,6 +4,7 @@
 use sheet::{Answer, Document};
 
 use crate::call::Call;
+use crate::make::{lines, next};
 use crate::replay::{perform, Reply};
 
 /// A buffer that is long enough for every message.
@@ -19,9 +20,14 @@ pub struct Script {
 impl Script {
     /// Begins with an empty document.
     pub fn new() -> Script {
-        let mut script = Script { text: Vec::new(), document: Document::new() };
+        let mut script = Script::bare();
         script.reset();
         script
+    }
+
+    /// No calls yet, not even the `reset`.
+    pub fn bare() -> Script {
+        Script { text: Vec::new(), document: Document::new() }
     }
 
     pub fn document(&self) -> &Document {
@@ -49,6 +55,12 @@ impl Script {
 
     pub fn receive(&mut self, message: &[u8]) -> Answer {
         self.call(Call::Receive { message }).answer
+    }
+
+    /// Receives the message of an edit that the terminal would make now.
+    pub fn receive_next(&mut self, terminal: u8, at: &str, deed: &str, value: &str) -> Answer {
+        let message = next(&self.document, terminal, &lines(at, deed, value));
+        self.receive(&message)
     }
 
     /// An edit with room for its message, which comes back, or None if it is refused.

@@ -11,8 +11,8 @@ use vectors::kept::files;
 use vectors::kinds::KINDS;
 use vectors::replay::{perform, replay};
 
-/// 2 MiB
-const MOST_KEPT: usize = 2 * 1024 * 1024;
+/// 2.5 MiB
+const MOST_KEPT: usize = 5 * 512 * 1024;
 
 fn folder() -> PathBuf {
     PathBuf::from(env!("CARGO_MANIFEST_DIR")).join("../../vectors")
@@ -38,7 +38,7 @@ fn the_generator_gives_the_very_bytes() {
 }
 
 #[test]
-fn they_are_2_mib_at_most() {
+fn they_are_2_5_mib_at_most() {
     let size: usize = files().iter().map(|(_, bytes)| bytes.len()).sum();
     assert!(size <= MOST_KEPT, "{size}");
 }

@@ -4,7 +4,7 @@
 use sheet::Document;
 
 use crate::call::Call;
-use crate::make::{deps, edit, hex, id, lines, message, next, wild, Taste};
+use crate::make::{deps, edit, hex, id, lines, message, wild, Taste};
 use crate::random::Random;
 use crate::script::{Script, ROOM};
 
@@ -26,16 +26,10 @@ pub fn script(seed: u64) -> Vec<u8> {
     script.into_text()
 }
 
-/// Receives the message of an edit that the terminal would make now.
-fn receive_next(script: &mut Script, terminal: u8, at: &str, deed: &str, value: &str) {
-    let message = next(script.document(), terminal, &lines(at, deed, value));
-    script.receive(&message);
-}
-
 fn places(script: &mut Script) {
     script.reset();
     for key in 0..=255 {
-        receive_next(script, 1, &hex(&[key]), "assign", "{");
+        script.receive_next(1, &hex(&[key]), "assign", "{");
     }
     for (at, deed, value) in [
         ("0000", "assign", "n"),
@@ -50,7 +44,7 @@ fn places(script: &mut Script) {
         ("ff", "delete", ""),
         ("ff[^", "insert", "{"),
     ] {
-        receive_next(script, 2, at, deed, value);
+        script.receive_next(2, at, deed, value);
         script.edit(3, &lines(at, deed, value));
     }
     script.at_border(|buffer| Call::Keys { way: b"", buffer });
@@ -61,39 +55,39 @@ fn marks(script: &mut Script) {
     script.reset();
     let deep = ["61"; 8].join("{");
     for _ in 0..127 {
-        receive_next(script, 1, &deep, "assign", "t");
+        script.receive_next(1, &deep, "assign", "t");
     }
     for _ in 0..7 {
-        receive_next(script, 1, "61", "assign", "f");
+        script.receive_next(1, "61", "assign", "f");
     }
-    receive_next(script, 2, "61{61", "assign", "f");
-    receive_next(script, 2, "61", "assign", "f");
-    receive_next(script, 2, "61", "assign", "f");
-    receive_next(script, 2, "62", "delete", "");
-    receive_next(script, 2, "62{61", "delete", "");
-    receive_next(script, 2, "61[^", "insert", "n");
+    script.receive_next(2, "61{61", "assign", "f");
+    script.receive_next(2, "61", "assign", "f");
+    script.receive_next(2, "61", "assign", "f");
+    script.receive_next(2, "62", "delete", "");
+    script.receive_next(2, "62{61", "delete", "");
+    script.receive_next(2, "61[^", "insert", "n");
     script.edit(3, &lines("61", "assign", "f"));
-    receive_next(script, 2, &["61"; 5].join("{"), "assign", "[");
-    receive_next(script, 2, "61[^", "insert", "n");
+    script.receive_next(2, &["61"; 5].join("{"), "assign", "[");
+    script.receive_next(2, "61[^", "insert", "n");
     script.save();
-    receive_next(script, 1, "61", "assign", "{");
+    script.receive_next(1, "61", "assign", "{");
     script.save();
 }
 
 fn values(script: &mut Script) {
     script.reset();
     for key in 0..=255 {
-        receive_next(script, 1, &hex(&[key]), "assign", "t");
+        script.receive_next(1, &hex(&[key]), "assign", "t");
     }
     let apart = lines("00", "assign", "f");
     script.receive(&message(id(1, 2), &deps(&[]), &apart));
-    receive_next(script, 3, "01", "assign", "n");
-    receive_next(script, 3, "02", "delete", "");
+    script.receive_next(3, "01", "assign", "n");
+    script.receive_next(3, "02", "delete", "");
     script.receive(&message(id(1, 2), &deps(&[]), &apart));
     script.receive(&message(id(2, 2), &deps(&[0, 1]), &apart));
     script.receive(&message(id(1, 4), &deps(&[]), &apart));
-    receive_next(script, 4, "00{00", "delete", "");
-    receive_next(script, 4, "00", "assign", "[");
+    script.receive_next(4, "00{00", "delete", "");
+    script.receive_next(4, "00", "assign", "[");
     script.receive(&message(id(1, 5), &deps(&[]), &lines("00", "assign", "i-1")));
     script.values(b"00");
     script.save();
@@ -102,10 +96,10 @@ fn values(script: &mut Script) {
 /// A list of 250 elements, some with a neighbour's mark, is cleared.
 fn clearing(script: &mut Script) {
     script.reset();
-    receive_next(script, 1, "6c", "assign", "[");
+    script.receive_next(1, "6c", "assign", "[");
     let mut prev = "^".to_string();
     for counter in 2..=251 {
-        receive_next(script, 1, &format!("6c[{prev}"), "insert", "t");
+        script.receive_next(1, &format!("6c[{prev}"), "insert", "t");
         prev = format!("{counter}.1");
     }
     for (element, counter) in [(2, 300), (100, 301), (251, 302)] {
@@ -118,8 +112,8 @@ fn clearing(script: &mut Script) {
     script.element(b"6c[", 2);
     script.element(b"6c[", 3);
     script.save();
-    receive_next(script, 3, "6c[150.1", "insert", "{");
-    receive_next(script, 3, "6c", "delete", "");
+    script.receive_next(3, "6c[150.1", "insert", "{");
+    script.receive_next(3, "6c", "delete", "");
     script.keys(b"");
     script.save();
 }
@@ -127,8 +121,8 @@ fn clearing(script: &mut Script) {
 /// Terminals that haven't seen each other insert at the head and after one element.
 fn inserts(random: &mut Random, script: &mut Script) {
     script.reset();
-    receive_next(script, 8, "6c", "assign", "[");
-    receive_next(script, 8, "6c[^", "insert", "t");
+    script.receive_next(8, "6c", "assign", "[");
+    script.receive_next(8, "6c[^", "insert", "t");
     for counter in 3..=122 {
         let deps = deps(&[0, if counter == 3 { 0 } else { counter - 1 }, 0, 0, 0, 0, 0, 2]);
         script.receive(&message(id(counter, 2), &deps, &lines("6c[2.8", "insert", "n")));
@@ -240,8 +234,8 @@ fn over_in_sheets(script: &mut Script) {
     ] {
         if script.load(format!("{head}{full}{more}end={count}\n").as_bytes()).number() == 0 {
             script.call(Call::Save { buffer: 0 });
-            receive_next(script, 2, "02", "assign", "n");
-            receive_next(script, 2, "ffff", "assign", "n");
+            script.receive_next(2, "02", "assign", "n");
+            script.receive_next(2, "ffff", "assign", "n");
         }
     }
     let long = "0".repeat(30_000);

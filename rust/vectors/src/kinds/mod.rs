@@ -1,5 +1,7 @@
 //! The kinds of scripts. Each writes a script from a seed.
 
+mod applied;
+mod applied_limits;
 mod chains;
 mod damaged;
 mod deep;
@@ -25,4 +27,5 @@ pub const KINDS: &[Kind] = &[
     ("deleted", deleted::script),
     ("reads", reads::script),
     ("layout", layout::script),
+    ("applied", applied::script),
 ];

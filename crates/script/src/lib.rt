@@ -1,0 +1,87 @@
+// The calls of a replay script (docs/REPLAY.md), as the programs that answer them find them in the script's bytes.
+use decimal::Number;
+use readers::Past;
+
+// The number in a call's first line, and the place behind that line. Not ok: the call is another one.
+pub struct Asked {
+    pub ok: bool,
+    pub number: usize,
+    pub next: usize,
+}
+
+// The block of a call: the part of the script from one byte up to another, and where the next call begins. Not ok: the call is another one.
+pub struct Call {
+    pub ok: bool,
+    pub from: usize,
+    pub to: usize,
+    pub next: usize,
+}
+
+fn not_asked() -> Asked {
+    Asked {
+        ok: false,
+        number: 0,
+        next: 0,
+    }
+}
+
+fn no_call() -> Call {
+    Call {
+        ok: false,
+        from: 0,
+        to: 0,
+        next: 0,
+    }
+}
+
+// The first line of a call with this name and one number, up to 65536.
+pub fn first_line(s: &[u8], a: usize, name: &[u8]) -> Asked {
+    let t = decimal::powers();
+    let Past::At(n) = readers::take_text(s, a, name) else {
+        return not_asked();
+    };
+    let Number::Value { value, next: end } = decimal::take_decimal(s, n, 65536, &t) else {
+        return not_asked();
+    };
+    let Past::At(next) = readers::take_byte(s, end, b'\n') else {
+        return not_asked();
+    };
+    Asked {
+        ok: true,
+        number: value as usize,
+        next,
+    }
+}
+
+// The block of a call with this name.
+pub fn block(s: &[u8], a: usize, name: &[u8]) -> Call {
+    let line = first_line(s, a, name);
+    if !line.ok {
+        return no_call();
+    }
+    let from = line.next;
+    let len = line.number;
+    if s.len() <= from {
+        return no_call();
+    }
+    if s.len() - from <= len {
+        return no_call();
+    }
+    Call {
+        ok: true,
+        from,
+        to: from + len,
+        next: from + len + 1,
+    }
+}
+
+// The bytes from one place up to another.
+pub fn part(s: &[u8], from: usize, to: usize) -> &[u8] {
+    if to < from {
+        return &s[..0];
+    }
+    if s.len() < to {
+        return &s[..0];
+    }
+    &s[from..to]
+}
