@@ -1,0 +1,236 @@
+-- Receiving: an operation that comes too early waits or is refused; one that is taken is applied, and the waiting ones are settled.
+-- Assumes nothing.
+use Prim.Native.Nat.{ℕ, suc, _+_, _≤_, _<_}
+use native.Mathlib.Omega.{arith}
+use mathlib.Core.Path.{_≡_, refl, sym, ap, _∙_}
+use mathlib.Core.Bool.{Bool, true, false, cond, false≢true, true≢false}
+use mathlib.Core.List.{List}
+use lib.Dec.{leb}
+use lib.ListN.{length}
+use borrow.Author.Tests.{le-leb, lt-leb}
+use Rattle.meaning.specs.Apply.{apply}
+use Rattle.meaning.specs.Limits.{fits}
+use Rattle.meaning.specs.Ways.{Operation}
+use Rattle.meaning.specs.Valid.{ValidOperation}
+use Rattle.meaning.specs.Message.{message}
+use Rattle.meaning.specs.Judge.{notAbove, repeated, crossed, astray, downward}
+use Rattle.meaning.specs.Receive.{Terminal, readyIn, waits, Verdict, refused, kept, taken, judgeReady}
+use Rattle.meaning.specs.Receive.{judgeEarly, judge, finish, receive, settle}
+use Rattle.meaning.specs.Promises.{Says, says, saysNothing}
+use Rattle.meaning.specs.declared.Receipt.{Receipt}
+use Rattle.meaning.specs.declared.Receipt.the-variants as R
+use Rattle.theorems.specs.Invariant.{Sent, Steady}
+use Rattle.theorems.specs.Members.{all-put}
+use Rattle.theorems.specs.Verdicts.{Refusal}
+use Rattle.tables.specs.Words.{Tables}
+use Rattle.message.specs.Means.{Means}
+use Rattle.message.specs.Promises.{Answers, ReadsMessage}
+use Rattle.message.specs.declared.Operation as M
+use Rattle.message.specs.declared.MessageRead.{MessageRead}
+use Rattle.operate.specs.Judging.{isTaken, readyVerdict, verdict, Applies}
+use Rattle.operate.specs.declared.Judged.{Judged}
+use Rattle.operate.specs.declared.Judged.the-variants as J
+use Rattle.operate.specs.declared.Outcome.{Outcome}
+use Rattle.waiting.specs.Waits.{idOf, TellsWaits, Puts}
+use Rattle.terminal.specs.declared.State.{State}
+use Rattle.terminal.specs.declared.Settled.{Settled}
+use Rattle.terminal.specs.declared.Received.{Received}
+use Rattle.terminal.specs.Verdicts.{isEarly, refusalOf}
+use Rattle.terminal.specs.Keeping.{Keeps}
+use Rattle.terminal.specs.Settling.{Rests, Settles}
+use Rattle.terminal.specs.Promises.{Comes, Awaits, Kept, Receiving}
+use Rattle.terminal.proofs.Sweeping.{counting}
+use Rattle.terminal.proofs.Verdicts.{by}
+
+-- a terminal that is kept is steady
+pub keeps-steady : (T : Tables) (t : List ℕ) (s : State) (X : Terminal) → Keeps T t s X → Steady X
+keeps-steady T t s X K = record {
+  sound = K .document .sound;
+  room = K .document .limits;
+  ascends = K .waiting .ascending;
+  sent = K .sent;
+  few = omega (arith, K .waiting .count, K .waiting .fit);
+}
+
+-- What a verdict on the document is for the terminal; e is what an early operation comes to.
+abbrev sort : Verdict → Judged → Verdict
+sort e J.Taken = taken
+sort e J.Early = e
+sort e J.Counter = refused R.Counter
+sort e J.Repeat = refused R.Repeat
+sort e J.OwnDeps = refused R.OwnDeps
+sort e J.NoElement = refused R.NoElement
+sort e J.NotSmaller = refused R.NotSmaller
+sort e J.NoRoom = refused R.NoRoom
+
+sorted : (n r c d a w f : Bool) (e : Verdict)
+    → cond n (refused R.Counter) (cond r (refused R.Repeat) (cond c (refused R.OwnDeps)
+    (cond d (cond a (refused R.NoElement) (cond w (refused R.NotSmaller) (cond f taken (refused R.NoRoom)))) e)))
+    ≡ sort e (cond n J.Counter (by r c d a w f))
+sorted true r c d a w f e = refl
+sorted false true c d a w f e = refl
+sorted false false true d a w f e = refl
+sorted false false false true true w f e = refl
+sorted false false false true false true f e = refl
+sorted false false false true false false true e = refl
+sorted false false false true false false false e = refl
+sorted false false false false a w f e = refl
+
+sort-taken : (e : Verdict) (v : Judged) → isTaken v ≡ true → sort e v ≡ taken
+sort-taken e J.Taken t = refl
+sort-taken e J.Early t = absurd (false≢true t)
+sort-taken e J.Counter t = absurd (false≢true t)
+sort-taken e J.Repeat t = absurd (false≢true t)
+sort-taken e J.OwnDeps t = absurd (false≢true t)
+sort-taken e J.NoElement t = absurd (false≢true t)
+sort-taken e J.NotSmaller t = absurd (false≢true t)
+sort-taken e J.NoRoom t = absurd (false≢true t)
+
+sort-early : (e : Verdict) (v : Judged) → isEarly v ≡ true → sort e v ≡ e
+sort-early e J.Taken t = absurd (false≢true t)
+sort-early e J.Early t = refl
+sort-early e J.Counter t = absurd (false≢true t)
+sort-early e J.Repeat t = absurd (false≢true t)
+sort-early e J.OwnDeps t = absurd (false≢true t)
+sort-early e J.NoElement t = absurd (false≢true t)
+sort-early e J.NotSmaller t = absurd (false≢true t)
+sort-early e J.NoRoom t = absurd (false≢true t)
+
+sort-refused : (e : Verdict) (v : Judged) → isTaken v ≡ false → isEarly v ≡ false → sort e v ≡ refused (refusalOf v)
+sort-refused e J.Taken t u = absurd (true≢false t)
+sort-refused e J.Early t u = absurd (true≢false u)
+sort-refused e J.Counter t u = refl
+sort-refused e J.Repeat t u = refl
+sort-refused e J.OwnDeps t u = refl
+sort-refused e J.NoElement t u = refl
+sort-refused e J.NotSmaller t u = refl
+sort-refused e J.NoRoom t u = refl
+
+judge-sorted : (o : Operation) (X : Terminal) → judge o X ≡ sort (judgeEarly o (X .waiting)) (verdict o (X .document))
+unfolding judge judgeReady verdict readyVerdict
+judge-sorted o X =
+    let D = X .document in
+    sorted (notAbove o) (repeated (D .seen) o) (crossed (D .seen) o) (readyIn D o) (astray D o) (downward o) (fits (apply o D)) _
+
+early-above : (o : Operation) (X : Terminal) → isEarly (verdict o (X .document)) ≡ true → notAbove o ≡ false
+unfolding verdict
+early-above o X e = go (notAbove o) refl
+  where
+    go : (b : Bool) → notAbove o ≡ b → notAbove o ≡ false
+    go false q = q
+    go true q = absurd (false≢true (rw q at e))
+
+-- An operation that comes too early.
+module _ (t : List ℕ) (s : State) (op : M.Operation) (b : Bool) (W : TellsWaits t (s .waiting) (op .id) b) where
+  told : (T : Tables) (X : Terminal) (o : Operation) → Keeps T t s X → Means op o → b ≡ waits (o .id) (X .waiting)
+  unfolding TellsWaits
+  told T X o K m = rw (← m .id) (W (X .waiting) (K .waiting))
+
+  pub awaits-already : b ≡ true → Awaits t s op (record { answer = R.WaitsAlready; state = s }) t
+  unfolding finish judgeEarly
+  awaits-already e = record {
+    waits = λ T X o K m h.
+        let q : waits (o .id) (X .waiting) ≡ true = sym (told T X o K m) ∙ e in
+        record { answers = rw q refl; keeps = rw q K };
+    stays = λ _. (refl, refl);
+  }
+
+  pub awaits-full : b ≡ false → 64 ≤ s .waiting → Awaits t s op (record { answer = R.WaitingFull; state = s }) t
+  unfolding finish judgeEarly
+  awaits-full e l = record {
+    waits = λ T X o K m h.
+        let q : waits (o .id) (X .waiting) ≡ false = sym (told T X o K m) ∙ e in
+        let f = le-leb 64 (length (X .waiting)) (omega (arith, K .waiting .count)) in
+        record { answers = rw (q, f) refl; keeps = rw (q, f) K };
+    stays = λ _. (refl, refl);
+  }
+
+  pub awaits-put : b ≡ false → s .waiting < 64 → (t′ : List ℕ) (n : ℕ) → Puts op t (s .waiting) t′ n
+      → Awaits t s op (record { answer = R.Waiting; state = counting s n }) t′
+  unfolding finish judgeEarly
+  awaits-put e l t′ n P = record {
+    waits = λ T X o K m h.
+        let q : waits (o .id) (X .waiting) ≡ false = sym (told T X o K m) ∙ e in
+        let f = lt-leb 64 (length (X .waiting)) (omega (arith, K .waiting .count)) in
+        record {
+          answers = rw (q, f) refl;
+          keeps = rw (q, f) (record {
+            document = K .document;
+            waiting = P .waits (X .waiting) o m (h .valid) (K .waiting) q l;
+            sent = all-put Sent idOf o (X .waiting) h (K .sent);
+          });
+        };
+    stays = λ u. absurd u;
+  }
+
+-- A message.
+module _ (T : Tables) (t : List ℕ) (s : State) (bytes : List ℕ) (m : MessageRead) (M : ReadsMessage bytes m) where
+  pub receives-nothing : m .ok ≡ false → Receiving T t s bytes (record { answer = R.Layout; state = s }) T t
+  receives-nothing f = record { receives = λ X K. go X K (M .says) (M .answers); stays = λ _. (refl, refl, refl) }
+    where
+      go : (X : Terminal) → Keeps T t s X → (y : Says ValidOperation message bytes) → Answers (Means (m .op)) (m .ok) y
+          → Kept X bytes (record { answer = R.Layout; state = s }) T t
+      go X K (says o v e) a = absurd (true≢false (sym (a .0) ∙ f))
+      go X K (saysNothing n) a =
+          record { exit = X; receives = record { reads = saysNothing n; answers = refl; leaves = refl }; keeps = K }
+
+  -- what is left to show, for the operation that was read
+  reading : (X : Terminal) (r : Received) (U : Tables) (t′ : List ℕ) → m .ok ≡ true
+      → ((o : Operation) → ValidOperation o → Means (m .op) o → Comes U t′ r (receive o X)) → Kept X bytes r U t′
+  reading X r U t′ f h = go (M .says) (M .answers)
+    where
+      go : (y : Says ValidOperation message bytes) → Answers (Means (m .op)) (m .ok) y → Kept X bytes r U t′
+      go (says o v e) a =
+          let c = h o v (a .1) in
+          record {
+            exit = receive o X .terminal;
+            receives = record { reads = says o v e; answers = c .answers; leaves = refl };
+            keeps = c .keeps;
+          }
+      go (saysNothing n) a = absurd (true≢false (sym f ∙ a))
+
+  module _ (ok : m .ok ≡ true) (o : Outcome) (U : Tables) (A : Applies T (s .counts) (s .seen) (m .op) o U) where
+    verdict-is : (X : Terminal) → Keeps T t s X → (x : Operation) → ValidOperation x → Means (m .op) x
+        → o .answer ≡ verdict x (X .document)
+    verdict-is X K x v e = A .answers (X .document) x (K .document) e v
+
+    pub receives-taken : isTaken (o .answer) ≡ true → (r : Settled) (N : Tables) (t′ : List ℕ)
+        → Settles U t (record { counts = o .counts; seen = o .seen; waiting = s .waiting }) r N t′
+        → Receiving T t s bytes (record { answer = R.Applied (r .applied + 1) (r .dropped); state = r .state }) N t′
+    unfolding receive finish
+    receives-taken y r N t′ S = record {
+      receives = λ X K. reading X _ N t′ ok (λ x v e.
+          let j : judge x X ≡ taken =
+          judge-sorted x X
+          ∙ sort-taken (judgeEarly x (X .waiting)) (verdict x (X .document)) (ap (λ z. isTaken z) (sym (verdict-is X K x v e)) ∙ y) in
+          let Y : Terminal = record { document = apply x (X .document); waiting = X .waiting } in
+          let q = S .settles Y
+          (record { document = A .takes (X .document) x (K .document) e v y; waiting = K .waiting; sent = K .sent }) in
+          let n : r .applied + 1 ≡ suc (length (settle Y .applied)) = omega (arith, q .applied) in
+          rw j (record { answers = rw (n, q .dropped) refl; keeps = q .keeps }));
+      stays = λ u. absurd u;
+    }
+
+    module _ (no : isTaken (o .answer) ≡ false) where
+      pub receives-early : isEarly (o .answer) ≡ true → (r : Received) (t′ : List ℕ) → Awaits t s (m .op) r t′
+          → Receiving T t s bytes r U t′
+      unfolding receive
+      receives-early y r t′ W = record {
+        receives = λ X K. reading X r U t′ ok (λ x v e.
+            let w : isEarly (verdict x (X .document)) ≡ true = ap (λ z. isEarly z) (sym (verdict-is X K x v e)) ∙ y in
+            rw (judge-sorted x X, sort-early (judgeEarly x (X .waiting)) (verdict x (X .document)) w, A .refuses no .0)
+            (W .waits T X x K e (record { valid = v; above = early-above x X w })));
+        stays = λ u. (A .refuses no .0, W .stays u .0, W .stays u .1);
+      }
+
+      pub receives-refused : isEarly (o .answer) ≡ false → (a : Receipt) → a ≡ refusalOf (o .answer)
+          → Receiving T t s bytes (record { answer = a; state = s }) U t
+      unfolding receive finish
+      receives-refused y a q = record {
+        receives = λ X K. reading X _ U t ok (λ x v e.
+            let j : judge x X ≡ refused (refusalOf (o .answer)) =
+            judge-sorted x X ∙ (ap (λ z. sort (judgeEarly x (X .waiting)) z) (sym (verdict-is X K x v e))
+            ∙ sort-refused (judgeEarly x (X .waiting)) (o .answer) no y) in
+            rw (j, A .refuses no .0) (record { answers = q; keeps = K }));
+        stays = λ u. (A .refuses no .0, refl, refl);
+      }

@@ -1,0 +1,4 @@
+pub mod Verdicts
+pub mod Keeping
+pub mod Settling
+pub mod Promises

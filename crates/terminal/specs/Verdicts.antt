@@ -1,0 +1,39 @@
+-- Verdicts sorted: which of them drop a waiting operation, and what a refusal answers.
+-- Assumes nothing: these are definitions.
+use mathlib.Core.Bool.{Bool, true, false}
+use Rattle.meaning.specs.declared.Receipt.{Receipt}
+use Rattle.meaning.specs.declared.Receipt.the-variants as R
+use Rattle.operate.specs.declared.Judged.{Judged}
+use Rattle.operate.specs.declared.Judged.the-variants as J
+
+-- 3, 4, 8, 9
+abbrev pub deadly : Judged → Bool
+deadly J.Taken = false
+deadly J.Early = false
+deadly J.Counter = false
+deadly J.Repeat = true
+deadly J.OwnDeps = true
+deadly J.NoElement = true
+deadly J.NotSmaller = true
+deadly J.NoRoom = false
+
+abbrev pub isEarly : Judged → Bool
+isEarly J.Taken = false
+isEarly J.Early = true
+isEarly J.Counter = false
+isEarly J.Repeat = false
+isEarly J.OwnDeps = false
+isEarly J.NoElement = false
+isEarly J.NotSmaller = false
+isEarly J.NoRoom = false
+
+-- the answer to a refusal
+abbrev pub refusalOf : Judged → Receipt
+refusalOf J.Taken = R.Layout
+refusalOf J.Early = R.Layout
+refusalOf J.Counter = R.Counter
+refusalOf J.Repeat = R.Repeat
+refusalOf J.OwnDeps = R.OwnDeps
+refusalOf J.NoElement = R.NoElement
+refusalOf J.NotSmaller = R.NotSmaller
+refusalOf J.NoRoom = R.NoRoom
