@@ -2,3 +2,4 @@ pub mod Words
 pub mod Rooms
 pub mod Verdicts
 pub mod Carrying
+pub mod Determined
