@@ -1,6 +1,9 @@
 // The calls of a replay script (docs/REPLAY.md), as the programs that answer them find them in the script's bytes.
 use decimal::Number;
 use readers::Past;
+ghost use mathlib.Core.Path.{_≡_};
+ghost use mathlib.Core.Bool.{false};
+ghost use Rattle.script.specs.Calls.{FindsLine, FindsCall, partOf};
 
 // The number in a call's first line, and the place behind that line. Not ok: the call is another one.
 pub struct Asked {
@@ -17,7 +20,9 @@ pub struct Call {
     pub next: usize,
 }
 
-fn not_asked() -> Asked {
+fn not_asked() -> Asked
+    ensures { λ r. ⌜ r .ok ≡ false ⌝ }
+{
     Asked {
         ok: false,
         number: 0,
@@ -25,7 +30,9 @@ fn not_asked() -> Asked {
     }
 }
 
-fn no_call() -> Call {
+fn no_call() -> Call
+    ensures { λ r. ⌜ r .ok ≡ false ⌝ }
+{
     Call {
         ok: false,
         from: 0,
@@ -35,7 +42,9 @@ fn no_call() -> Call {
 }
 
 // The first line of a call with this name and one number, up to 65536.
-pub fn first_line(s: &[u8], a: usize, name: &[u8]) -> Asked {
+pub fn first_line(s: &[u8], a: usize, name: &[u8]) -> Asked
+    ensures { λ r. ⌜ FindsLine (now (name .entry)) (now (s .entry)) a r ⌝ }
+{
     let t = decimal::powers();
     let Past::At(n) = readers::take_text(s, a, name) else {
         return not_asked();
@@ -53,30 +62,31 @@ pub fn first_line(s: &[u8], a: usize, name: &[u8]) -> Asked {
     }
 }
 
-// The block of a call with this name.
-pub fn block(s: &[u8], a: usize, name: &[u8]) -> Call {
+// The block of a call with this name: as many bytes as the first line says, and one LF behind them.
+pub fn block(s: &[u8], a: usize, name: &[u8]) -> Call
+    ensures { λ r. ⌜ FindsCall (now (name .entry)) (now (s .entry)) a r ⌝ }
+{
     let line = first_line(s, a, name);
     if !line.ok {
         return no_call();
     }
     let from = line.next;
-    let len = line.number;
-    if s.len() <= from {
+    let to = from + line.number;
+    let Past::At(next) = readers::take_byte(s, to, b'\n') else {
         return no_call();
-    }
-    if s.len() - from <= len {
-        return no_call();
-    }
+    };
     Call {
         ok: true,
         from,
-        to: from + len,
-        next: from + len + 1,
+        to,
+        next,
     }
 }
 
-// The bytes from one place up to another.
-pub fn part(s: &[u8], from: usize, to: usize) -> &[u8] {
+// The bytes from one place up to another; none if these aren't places of s, in this order.
+pub fn part(s: &[u8], from: usize, to: usize) -> &[u8]
+    ensures { λ r. ⌜ now r ≡ partOf from to (now (s .entry)) ⌝ }
+{
     if to < from {
         return &s[..0];
     }

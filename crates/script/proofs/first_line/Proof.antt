@@ -1,0 +1,81 @@
+-- `script::first_line` meets its contract: each part is taken where the one before it ends.
+-- Assumes nothing.
+use Rattle.decimal.proofs.Runs.{number-took, number-none}
+use Rattle.readers.proofs.Texts.{text-took, text-none}
+use Rattle.script.proofs.Finding.{not-asked, no-name, no-number, no-feed, a-line}
+use borrow.Author.Needs.{needs}
+use Rattle.script.proofs.first_line.Statement.{statement}
+use Rattle.script.proofs.first_line.Tie as tie
+
+powers-requires : tie.Need-powers-requires
+powers-requires c κs = search needs
+
+take-text-requires : tie.Need-take-text-requires
+take-text-requires c κs = search needs
+
+enum-known-n : tie.Need-enum-known-n
+enum-known-n c = search needs
+
+enum-told : tie.Need-enum-told
+enum-told c = search needs
+
+not-asked-requires : tie.Need-not-asked-requires
+not-asked-requires c κs = search needs
+
+returns : tie.Need-returns
+returns c = not-asked (c .before .before .before .before .before .before .before .args .name .now) _ _ (c .not-asked .result) (c .not-asked .ensures) (no-name _ _ _ (text-none _ (c .before .enum-told .given .1) (c .before .before .before .take-text .ensures)))
+
+take-decimal-requires : tie.Need-take-decimal-requires
+take-decimal-requires c κs = search needs
+
+enum-known-value : tie.Need-enum-known-value
+enum-known-value c = search needs
+
+enum-told-2 : tie.Need-enum-told-2
+enum-told-2 c = search needs
+
+not-asked-requires-2 : tie.Need-not-asked-requires-2
+not-asked-requires-2 c κs = search needs
+
+returns-2 : tie.Need-returns-2
+returns-2 c = not-asked (c .before .before .before .before .before .before .before .before .before .before .before .before .args .name .now) _ _ (c .not-asked2 .result) (c .not-asked2 .ensures) (no-number _ _ _ _ (text-took _ (c .before .before .before .before .before .before .n .given .1) (c .before .before .before .before .before .before .before .before .take-text .ensures)) (number-none _ (c .before .enum-told2 .given .1) (c .before .before .before .take-decimal .ensures)))
+
+take-byte-requires : tie.Need-take-byte-requires
+take-byte-requires c κs = search needs
+
+enum-known-next : tie.Need-enum-known-next
+enum-known-next c = search needs
+
+enum-told-3 : tie.Need-enum-told-3
+enum-told-3 c = search needs
+
+not-asked-requires-3 : tie.Need-not-asked-requires-3
+not-asked-requires-3 c κs = search needs
+
+returns-3 : tie.Need-returns-3
+returns-3 c = not-asked (c .before .before .before .before .before .before .before .before .before .before .before .before .before .before .before .before .args .name .now) _ _ (c .not-asked3 .result) (c .not-asked3 .ensures) (no-feed _ _ _ _ (text-took _ (c .before .before .before .before .before .before .before .before .before .before .n .given .1) (c .before .before .before .before .before .before .before .before .before .before .before .before .take-text .ensures)) _ _ (number-took _ (c .before .before .before .before .before .value .given .1) (c .before .before .before .before .before .before .before .take-decimal .ensures)) (text-none _ (c .before .enum-told3 .given .1) (c .before .before .before .take-byte .ensures)))
+
+returns-4 : tie.Need-returns-4
+returns-4 c = a-line _ _ _ _ (text-took _ (c .before .before .before .before .before .before .before .before .before .before .n .given .1) (c .before .before .before .before .before .before .before .before .before .before .before .before .take-text .ensures)) _ _ (number-took _ (c .before .before .before .before .before .value .given .1) (c .before .before .before .before .before .before .before .take-decimal .ensures)) _ (text-took _ (c .before .next .given .1) (c .before .before .before .take-byte .ensures))
+
+pub first-line-spec : {M : Type 1} → statement M
+first-line-spec =
+    tie.close
+    (tie.spec
+    powers-requires
+    take-text-requires
+    enum-known-n
+    enum-told
+    not-asked-requires
+    returns
+    take-decimal-requires
+    enum-known-value
+    enum-told-2
+    not-asked-requires-2
+    returns-2
+    take-byte-requires
+    enum-known-next
+    enum-told-3
+    not-asked-requires-3
+    returns-3
+    returns-4)

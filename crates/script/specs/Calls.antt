@@ -1,0 +1,47 @@
+-- docs/REPLAY.md, "Scripts": a call's first line with one number, and the block of bytes behind it. Stricter than REPLAY.md in one point: the
+-- number is at most 65536, which is REPLAY.md's limit of a block and of a buffer. A name stands here with the space behind it.
+-- Assumes nothing: these are definitions.
+use Prim.Native.Nat.{ℕ, _+_, _-_, _≤_}
+use mathlib.Core.Path.{_≡_}
+use mathlib.Core.Bool.{cond, _&&_}
+use mathlib.Core.List.{List, [], _++_}
+use lib.Dec.{leb}
+use lib.ListN.{length, take, drop}
+use Rattle.meaning.specs.Ascii.{ascii}
+use Rattle.meaning.specs.Text.{decimal}
+use Rattle.decimal.specs.Take.{Layout, Took, Never, fixed, then}
+use Rattle.decimal.specs.Numbers.{numbers}
+use Rattle.readers.specs.Reads.{either}
+use Rattle.script.specs.declared.Asked.{Asked}
+use Rattle.script.specs.declared.Call.{Call}
+
+-- a name, a number and one LF
+abbrev pub firstLines : List ℕ → Layout (Unit {0} × (ℕ × Unit {0}))
+firstLines name = then (fixed name) (then (numbers 0 65536) (fixed (ascii "\n")))
+
+-- a first line with the number of the block's bytes, the block, and one LF
+abbrev pub calls : List ℕ → Layout (List ℕ)
+calls name =
+    record {
+      Valid = λ block. length block ≤ 65536;
+      text = λ block. (name ++ (decimal (length block) ++ ascii "\n")) ++ (block ++ ascii "\n");
+      More = λ block t. Unit {0};
+    }
+
+-- the bytes of s from one place up to another; none if they aren't places of s, in this order
+abbrev pub partOf : ℕ → ℕ → List ℕ → List ℕ
+partOf from to s = cond (leb from to && leb to (length s)) (take (to - from) (drop from s)) []
+
+-- A first line stands at a, with this number, and the place behind it is `next`; or none does.
+abbrev pub FindsLine : List ℕ → List ℕ → ℕ → Asked → Type 0
+FindsLine name s a r = either (r .ok) (Took (firstLines name) s a (tt, (r .number, tt)) (r .next)) (Never (firstLines name) s a)
+
+-- A call stands at a. Its block is the part from `from` up to `to`; one LF stands behind it, and then the next call.
+pub record Found (name s : List ℕ) (a : ℕ) (r : Call) : Type 0 where
+  pub took : Took (calls name) s a (partOf (r .from) (r .to) s) (r .next)
+  pub order : r .from ≤ r .to
+  pub next : r .next ≡ r .to + 1
+
+-- A call stands at a; or none does.
+abbrev pub FindsCall : List ℕ → List ℕ → ℕ → Call → Type 0
+FindsCall name s a r = either (r .ok) (Found name s a r) (Never (calls name) s a)
