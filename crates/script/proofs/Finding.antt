@@ -26,14 +26,18 @@ feed = fixed (ascii "\n")
 -- First lines.
 
 module _ (name s : List ℕ) (a : ℕ) where
+  -- what is promised of an answer, were its `ok` this
+  abbrev Line : Asked → Bool → Type 0
+  Line r b = either b (Took (firstLines name) s a (tt, (r .number, tt)) (r .next)) (Never (firstLines name) s a)
+
   pub not-asked : (r : Asked) → r .ok ≡ false → Never (firstLines name) s a → FindsLine name s a r
-  not-asked r e h = subst (λ b. either b (Took (firstLines name) s a (tt, (r .number, tt)) (r .next)) (Never (firstLines name) s a)) (sym e) h
+  not-asked r e h = subst (Line r) (sym e) h
 
   pub line-took : (r : Asked) → r .ok ≡ true → FindsLine name s a r → Took (firstLines name) s a (tt, (r .number, tt)) (r .next)
-  line-took r e k = subst (λ b. either b (Took (firstLines name) s a (tt, (r .number, tt)) (r .next)) (Never (firstLines name) s a)) e k
+  line-took r e k = subst (Line r) e k
 
   pub line-none : (r : Asked) → r .ok ≡ false → FindsLine name s a r → Never (firstLines name) s a
-  line-none r e k = subst (λ b. either b (Took (firstLines name) s a (tt, (r .number, tt)) (r .next)) (Never (firstLines name) s a)) e k
+  line-none r e k = subst (Line r) e k
 
   pub no-name : Never (fixed name) s a → Never (firstLines name) s a
   no-name h = no-first (fixed name) (then (numbers 0 65536) feed) (λ x y t v m. tt) s a h
@@ -105,7 +109,8 @@ module _ (name s : List ℕ) (a : ℕ) where
           let block = take v (drop n s) in
           let first = firstLines name .text (tt, (v, tt)) in
           let e : drop n s ≡ (block ++ ascii "\n") ++ drop m s =
-          sym (take-append-drop v (drop n s)) ∙ (ap (λ t. block ++ t) (drop-drop v n s ∙ end .text) ∙ sym (append-assoc block (ascii "\n") (drop m s))) in
+          sym (take-append-drop v (drop n s))
+          ∙ (ap (λ t. block ++ t) (drop-drop v n s ∙ end .text) ∙ sym (append-assoc block (ascii "\n") (drop m s))) in
           record {
             valid = omega (arith, long, line-within);
             text =
@@ -116,14 +121,17 @@ module _ (name s : List ℕ) (a : ℕ) where
             rest = tt;
             within = λ h. last .0;
             only = λ other t ok st f.
-                let q = behind-line other t ok f in
-                (sym (take-at other (ascii "\n" ++ t) v (q .0)) ∙ ap (λ l. take v l) (q .1), end .only tt t tt tt (behind-block other t ok f) .1);
+                let q = behind-line other t ok f in (
+                  sym (take-at other (ascii "\n" ++ t) v (q .0)) ∙ ap (λ l. take v l) (q .1),
+                  end .only tt t tt tt (behind-block other t ok f) .1,
+                );
           }
 
       pub a-call : Found name s a (record { ok = true; from = n; to = n + v; next = m })
       a-call =
           let i : v ≡ n + v - n = omega arith in
-          let p : take v (drop n s) ≡ partOf n (n + v) s = ap (λ k. take k (drop n s)) i ∙ sym (part-is n (n + v) s (omega arith) (omega (arith, last))) in
+          let p : take v (drop n s) ≡ partOf n (n + v) s =
+          ap (λ k. take k (drop n s)) i ∙ sym (part-is n (n + v) s (omega arith) (omega (arith, last))) in
           record { took = subst (λ block. Took (calls name) s a block m) p block-took; order = omega arith; next = last .1 }
 
 -- Parts.

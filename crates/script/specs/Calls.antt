@@ -1,14 +1,14 @@
--- docs/REPLAY.md, "Scripts": a call's first line with one number, and the block of bytes behind it. Stricter than REPLAY.md in one point: the
--- number is at most 65536, which is REPLAY.md's limit of a block and of a buffer. A name stands here with the space behind it.
+-- docs/REPLAY.md, "Scripts": a call's first line with one number, and the block of bytes behind it. Stricter than REPLAY.md in one point:
+-- the number is at most 65536, which is REPLAY.md's limit of a block and of a buffer. A name stands here with the space behind it.
 -- Assumes nothing: these are definitions.
 use Prim.Native.Nat.{ℕ, _+_, _-_, _≤_}
-use mathlib.Core.Path.{_≡_}
+use mathlib.Core.Path.{_≡_, refl}
 use mathlib.Core.Bool.{cond, _&&_}
 use mathlib.Core.List.{List, [], _++_}
 use lib.Dec.{leb}
 use lib.ListN.{length, take, drop}
 use Rattle.meaning.specs.Ascii.{ascii}
-use Rattle.meaning.specs.Text.{decimal}
+use Rattle.meaning.specs.Text.{decimal, digits, width, widthFrom}
 use Rattle.decimal.specs.Take.{Layout, Took, Never, fixed, then}
 use Rattle.decimal.specs.Numbers.{numbers}
 use Rattle.readers.specs.Reads.{either}
@@ -27,6 +27,15 @@ calls name =
       text = λ block. (name ++ (decimal (length block) ++ ascii "\n")) ++ (block ++ ascii "\n");
       More = λ block t. Unit {0};
     }
+
+-- REPLAY.md's last call; and a block of no bytes is one LF
+last-call : calls (ascii "iskeysway ") .text (ascii "73{") ≡ ascii "iskeysway 3\n73{\n"
+unfolding decimal digits width widthFrom
+last-call = refl
+
+no-bytes : calls (ascii "receive ") .text [] ≡ ascii "receive 0\n\n"
+unfolding decimal digits width widthFrom
+no-bytes = refl
 
 -- the bytes of s from one place up to another; none if they aren't places of s, in this order
 abbrev pub partOf : ℕ → ℕ → List ℕ → List ℕ

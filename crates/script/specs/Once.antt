@@ -1,4 +1,5 @@
--- The promises of `script` settle its answers: any two answers that meet one are equal in what a caller may use, `line-once` and `call-once`.
+-- The promises of `script` settle its answers: two answers that meet one are equal in what a caller may use, `line-once` and `call-once`.
+-- (What `part` promises is an equation.)
 -- Assumes nothing.
 use Prim.Native.Nat.{ℕ, _+_, _-_, _≤_, _<_}
 use native.Mathlib.Omega.{arith}
@@ -23,11 +24,13 @@ module _ {X : Type 0} (L : Layout X) (s : List ℕ) (a : ℕ) where
   pub took-past : (x : X) (n : ℕ) → Took L s a x n → 0 < length (L .text x) → (n ≤ length s) × (n ≡ a + length (L .text x))
   took-past x n k h =
       let e : length s - a ≡ length (L .text x) + (length s - n) =
-      sym (length-drop a s) ∙ (ap length (k .text) ∙ (length-append (L .text x) (drop n s) ∙ ap (λ m. length (L .text x) + m) (length-drop n s))) in
+      sym (length-drop a s)
+      ∙ (ap length (k .text) ∙ (length-append (L .text x) (drop n s) ∙ ap (λ m. length (L .text x) + m) (length-drop n s))) in
       let w : n ≤ length s = k .within (omega arith) in
       (w, omega arith)
 
-  pub took-once : (x y : X) (n m : ℕ) → Took L s a x n → Took L s a y m → 0 < length (L .text x) → 0 < length (L .text y) → (x ≡ y) × (n ≡ m)
+  pub took-once : (x y : X) (n m : ℕ) → Took L s a x n → Took L s a y m → 0 < length (L .text x) → 0 < length (L .text y)
+      → (x ≡ y) × (n ≡ m)
   took-once x y n m k l h i =
       let e : x ≡ y = l .only x (drop n s) (k .valid) (k .rest) (k .text) .0 in
       (e, took-past x n k h .1 ∙ (ap (λ z. a + length (L .text z)) e ∙ sym (took-past y m l i .1)))

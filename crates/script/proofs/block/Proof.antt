@@ -15,10 +15,19 @@ no-call-requires : tie.Need-no-call-requires
 no-call-requires c κs = search needs
 
 returns : tie.Need-returns
-returns c = no-call _ _ _ (c .no-call .result) (c .no-call .ensures) (no-line (c .before .before .before .before .before .before .args .name .now) _ _ (line-none (c .before .before .before .before .before .before .args .name .now) _ _ (c .before .before .before .first-line .result) (not-true _ (c .before .if1 .taken)) (c .before .before .before .first-line .ensures)))
+returns c =
+    let line = c .before .before .before in
+    let name = line .before .before .before .args .name .now in
+    no-call _ _ _ (c .no-call .result) (c .no-call .ensures)
+    (no-line name _ _ (line-none name _ _ (line .first-line .result) (not-true _ (c .before .if1 .taken)) (line .first-line .ensures)))
 
 add-to : tie.Need-add-to
-add-to c = omega (arith, line-within (c .before .before .before .before .before .before .args .name .now) (c .before .before .before .before .before .before .args .s .now) (c .before .before .before .before .before .before .args .a) _ _ (line-took (c .before .before .before .before .before .before .args .name .now) (c .before .before .before .before .before .before .args .s .now) (c .before .before .before .before .before .before .args .a) (c .before .before .before .first-line .result) (not-false _ (c .before .if1 .left)) (c .before .before .before .first-line .ensures)), c .before .before .before .before .before .before .good .0 .1)
+add-to c =
+    let line = c .before .before .before in
+    let start = line .before .before .before in
+    let k = line-took (start .args .name .now) (start .args .s .now) (start .args .a)
+    (line .first-line .result) (not-false _ (c .before .if1 .left)) (line .first-line .ensures) in
+    omega (arith, line-within (start .args .name .now) (start .args .s .now) (start .args .a) _ _ k, start .good .0 .1)
 
 take-byte-requires : tie.Need-take-byte-requires
 take-byte-requires c κs = search needs
@@ -33,10 +42,24 @@ no-call-requires-2 : tie.Need-no-call-requires-2
 no-call-requires-2 c κs = search needs
 
 returns-2 : tie.Need-returns-2
-returns-2 c = no-call _ _ _ (c .no-call2 .result) (c .no-call2 .ensures) (no-end (c .before .before .before .before .before .before .before .before .before .before .args .name .now) _ _ _ _ (line-took (c .before .before .before .before .before .before .before .before .before .before .args .name .now) (c .before .before .before .before .before .before .before .before .before .before .args .s .now) (c .before .before .before .before .before .before .before .before .before .before .args .a) (c .before .before .before .before .before .before .before .first-line .result) (not-false _ (c .before .before .before .before .before .if1 .left)) (c .before .before .before .before .before .before .before .first-line .ensures)) (text-none _ (c .before .enum-told .given .1) (c .before .before .before .take-byte .ensures)))
+returns-2 c =
+    let tested = c .before .before .before .before .before in
+    let line = tested .before .before in
+    let start = line .before .before .before in
+    let k = line-took (start .args .name .now) (start .args .s .now) (start .args .a)
+    (line .first-line .result) (not-false _ (tested .if1 .left)) (line .first-line .ensures) in
+    no-call _ _ _ (c .no-call2 .result) (c .no-call2 .ensures)
+    (no-end (start .args .name .now) _ _ _ _ k
+    (text-none _ (c .before .enum-told .given .1) (c .before .before .before .take-byte .ensures)))
 
 returns-3 : tie.Need-returns-3
-returns-3 c = a-call _ _ _ _ _ (line-took (c .before .before .before .before .before .before .before .before .before .before .args .name .now) (c .before .before .before .before .before .before .before .before .before .before .args .s .now) (c .before .before .before .before .before .before .before .before .before .before .args .a) (c .before .before .before .before .before .before .before .first-line .result) (not-false _ (c .before .before .before .before .before .if1 .left)) (c .before .before .before .before .before .before .before .first-line .ensures)) _ (text-took _ (c .before .next .given .1) (c .before .before .before .take-byte .ensures))
+returns-3 c =
+    let tested = c .before .before .before .before .before in
+    let line = tested .before .before in
+    let start = line .before .before .before in
+    let k = line-took (start .args .name .now) (start .args .s .now) (start .args .a)
+    (line .first-line .result) (not-false _ (tested .if1 .left)) (line .first-line .ensures) in
+    a-call _ _ _ _ _ k _ (text-took _ (c .before .next .given .1) (c .before .before .before .take-byte .ensures))
 
 pub block-spec : {M : Type 1} → statement M
 block-spec =

@@ -23,7 +23,11 @@ not-asked-requires : tie.Need-not-asked-requires
 not-asked-requires c κs = search needs
 
 returns : tie.Need-returns
-returns c = not-asked (c .before .before .before .before .before .before .before .args .name .now) _ _ (c .not-asked .result) (c .not-asked .ensures) (no-name _ _ _ (text-none _ (c .before .enum-told .given .1) (c .before .before .before .take-text .ensures)))
+returns c =
+    let name = c .before .before .before in
+    let start = name .before .before .before .before in
+    not-asked (start .args .name .now) _ _ (c .not-asked .result) (c .not-asked .ensures)
+    (no-name _ _ _ (text-none _ (c .before .enum-told .given .1) (name .take-text .ensures)))
 
 take-decimal-requires : tie.Need-take-decimal-requires
 take-decimal-requires c κs = search needs
@@ -38,7 +42,14 @@ not-asked-requires-2 : tie.Need-not-asked-requires-2
 not-asked-requires-2 c κs = search needs
 
 returns-2 : tie.Need-returns-2
-returns-2 c = not-asked (c .before .before .before .before .before .before .before .before .before .before .before .before .args .name .now) _ _ (c .not-asked2 .result) (c .not-asked2 .ensures) (no-number _ _ _ _ (text-took _ (c .before .before .before .before .before .before .n .given .1) (c .before .before .before .before .before .before .before .before .take-text .ensures)) (number-none _ (c .before .enum-told2 .given .1) (c .before .before .before .take-decimal .ensures)))
+returns-2 c =
+    let number = c .before .before .before in
+    let told = number .before .before .before in
+    let name = told .before .before in
+    let start = name .before .before .before .before in
+    not-asked (start .args .name .now) _ _ (c .not-asked2 .result) (c .not-asked2 .ensures)
+    (no-number _ _ _ _ (text-took _ (told .n .given .1) (name .take-text .ensures))
+    (number-none _ (c .before .enum-told2 .given .1) (number .take-decimal .ensures)))
 
 take-byte-requires : tie.Need-take-byte-requires
 take-byte-requires c κs = search needs
@@ -53,10 +64,28 @@ not-asked-requires-3 : tie.Need-not-asked-requires-3
 not-asked-requires-3 c κs = search needs
 
 returns-3 : tie.Need-returns-3
-returns-3 c = not-asked (c .before .before .before .before .before .before .before .before .before .before .before .before .before .before .before .before .args .name .now) _ _ (c .not-asked3 .result) (c .not-asked3 .ensures) (no-feed _ _ _ _ (text-took _ (c .before .before .before .before .before .before .before .before .before .before .n .given .1) (c .before .before .before .before .before .before .before .before .before .before .before .before .take-text .ensures)) _ _ (number-took _ (c .before .before .before .before .before .value .given .1) (c .before .before .before .before .before .before .before .take-decimal .ensures)) (text-none _ (c .before .enum-told3 .given .1) (c .before .before .before .take-byte .ensures)))
+returns-3 c =
+    let feed = c .before .before .before in
+    let value = feed .before .before in
+    let number = value .before .before in
+    let told = number .before .before .before in
+    let name = told .before .before in
+    let start = name .before .before .before .before in
+    not-asked (start .args .name .now) _ _ (c .not-asked3 .result) (c .not-asked3 .ensures)
+    (no-feed _ _ _ _ (text-took _ (told .n .given .1) (name .take-text .ensures))
+    _ _ (number-took _ (value .value .given .1) (number .take-decimal .ensures))
+    (text-none _ (c .before .enum-told3 .given .1) (feed .take-byte .ensures)))
 
 returns-4 : tie.Need-returns-4
-returns-4 c = a-line _ _ _ _ (text-took _ (c .before .before .before .before .before .before .before .before .before .before .n .given .1) (c .before .before .before .before .before .before .before .before .before .before .before .before .take-text .ensures)) _ _ (number-took _ (c .before .before .before .before .before .value .given .1) (c .before .before .before .before .before .before .before .take-decimal .ensures)) _ (text-took _ (c .before .next .given .1) (c .before .before .before .take-byte .ensures))
+returns-4 c =
+    let feed = c .before .before .before in
+    let value = feed .before .before in
+    let number = value .before .before in
+    let told = number .before .before .before in
+    let name = told .before .before in
+    a-line _ _ _ _ (text-took _ (told .n .given .1) (name .take-text .ensures))
+    _ _ (number-took _ (value .value .given .1) (number .take-decimal .ensures))
+    _ (text-took _ (c .before .next .given .1) (feed .take-byte .ensures))
 
 pub first-line-spec : {M : Type 1} → statement M
 first-line-spec =
