@@ -1,6 +1,7 @@
--- docs/REPLAY.md, "Scripts": a call's first line with one number, and the block of bytes behind it. Stricter than REPLAY.md in one point:
--- the number is at most 65536, which is REPLAY.md's limit of a block and of a buffer. A name stands here with the space behind it.
--- Assumes nothing: these are definitions.
+-- docs/REPLAY.md, "Scripts": a call whose first line has one number, and the block of bytes behind it. A name stands here with the space
+-- behind it. Stricter than REPLAY.md: the number is at most 65536, its limit of a block and of a buffer. Looser: no limit of 40 bytes
+-- for the first line.
+-- Assumes nothing.
 use Prim.Native.Nat.{ℕ, _+_, _-_, _≤_}
 use mathlib.Core.Path.{_≡_, refl}
 use mathlib.Core.Bool.{cond, _&&_}
