@@ -122,7 +122,9 @@ never n (r ∷ X) = and-false (eqb (r .depth) n)
 pub step-on : (n : ℕ) (pass : Spot → Bool) (new rs : List Row)
     → stepOnRows n pass new rs ≡ passed (over n pass) rs ++ (new ++ rest (over n pass) rs)
 unfolding stepOnRows seekRows
-step-on n pass new rs = ap (passed (over n pass) rs ++_) (here-none n (λ p. false) (λ b. b) new (rest (over n pass) rs) (never n (rest (over n pass) rs)))
+step-on n pass new rs =
+    let X = rest (over n pass) rs in
+    ap (passed (over n pass) rs ++_) (here-none n (λ p. false) (λ b. b) new X (never n X))
 
 module _ (n i e : ℕ) (new rs : List Row) where
   -- behind the predecessor, and on over what is greater

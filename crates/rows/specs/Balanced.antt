@@ -68,7 +68,8 @@ pub clear-values-length : (d : List ℕ) (r : Row) → length (clearValues d (r 
 unfolding clearValues
 clear-values-length d r = keep-length (λ v. uncovered d (v .id)) (r .values)
 
-pub fresh-clear-values : (d : List ℕ) (r : Row) (i : ℕ) → (Has idOfValue i (r .values) → ⊥) → Has idOfValue i (clearValues d (r .values)) → ⊥
+pub fresh-clear-values : (d : List ℕ) (r : Row) (i : ℕ) → (Has idOfValue i (r .values) → ⊥)
+    → Has idOfValue i (clearValues d (r .values)) → ⊥
 unfolding clearValues
 fresh-clear-values d r i n h = n (has-keep idOfValue (λ v. uncovered d (v .id)) i (r .values) h)
 

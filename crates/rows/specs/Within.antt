@@ -15,7 +15,8 @@ use Rattle.rows.specs.Blocks.{passed, rest, Block, join, newRow, mapRow,
 use Rattle.rows.specs.Blocks.{onBlock, changeHere, seekRows, atKeyRows, atElementRows, stepOnRows, behindRows, insertRows}
 use Rattle.rows.specs.Blocks.{giveBlock, passingRow, runBlock, applyRows}
 use Rattle.rows.specs.Spans.{Shallow}
-use Rattle.rows.specs.Locate.{Located, nowhere, here, locateHere, locate, locateKey, locateElement, underOf, isLocated, ledRows, astrayRows}
+use Rattle.rows.specs.Locate.{Located, nowhere, here, locateHere, locate, locateKey, locateElement, underOf, isLocated}
+use Rattle.rows.specs.Locate.{ledRows, astrayRows}
 use Rattle.rows.specs.Counting.{Change, noChange, both, newChange, passingChange, newBlock, foundChange, isPrev, runChange, change}
 
 -- what an operation does among the rows behind a place
@@ -257,4 +258,6 @@ module _ (n : ℕ) (R : List Row) (h : Shallow n R) where
   led-within d (insert (after e) a) us = ap (λ l. covered d e && isLocated l) (element-within e us)
   led-within d (intoMap k w) us = ap (λ l. ledRows d (suc (suc n)) w (underOf l)) (key-within k us)
   led-within d (intoList e w) us =
-      ap (λ l. covered d e && elim l as (λ l. Bool) [ nowhere ↦ false | here b ↦ ledRows d (suc (suc n)) w (b .under) ]) (element-within e us)
+      ap
+      (λ l. covered d e && elim l as (λ l. Bool) [ nowhere ↦ false | here b ↦ ledRows d (suc (suc n)) w (b .under) ])
+      (element-within e us)
