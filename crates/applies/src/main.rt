@@ -1,5 +1,6 @@
 // Answers the calls `reset`, `receive` and `save` of a replay script (docs/REPLAY.md), read from standard input. The gate compares what it
-// prints with the second implementation's answers. No message waits here: one that comes too early is answered as one that waits, and forgotten.
+// prints with the second implementation's answers. No message waits here: one that comes too early is answered as one that waits, and
+// forgotten.
 use libc::STDOUT_FILENO;
 use meaning::Counters;
 use meaning::Saved;

@@ -1,10 +1,9 @@
 -- The small tests of a descent, case by case.
 -- Assumes nothing.
 use Prim.Native.Nat.{ℕ, _+_, _≤_, _<_}
-use mathlib.Core.Path.{_≡_, refl, sym}
-use mathlib.Core.Bool.{Bool, true, false, not, true≢false}
+use mathlib.Core.Path.{_≡_}
+use mathlib.Core.Bool.{true, false, not}
 use borrow.Author.Tests.{lt-ltb, le-ltb, eq-eqb, ne-eqb}
-use Rattle.readers.specs.Reads.{either}
 use Rattle.message.specs.declared.Deed.{Deed}
 use Rattle.tables.specs.declared.Want.{Want}
 use Rattle.apply.specs.Doing.{isDelete, isInsert, stringKind, mayMake, insertsHere, wantOf}
@@ -46,13 +45,3 @@ inserts-last left deed e = rw (eq-eqb left 3 e)
 pub inserts-not : (left : ℕ) (deed : Deed) → (left ≡ 3 → ⊥) → false ≡ insertsHere left deed
 unfolding insertsHere
 inserts-not left deed n = rw (ne-eqb left 3 n)
-
--- one of two things, by a test
-module _ (P Q : Type 0) where
-  pub yes : (b : Bool) → b ≡ true → either b P Q → P
-  yes true e x = x
-  yes false e x = absurd (true≢false (sym e))
-
-  pub no : (b : Bool) → b ≡ false → either b P Q → Q
-  no true e x = absurd (true≢false e)
-  no false e x = x

@@ -15,7 +15,8 @@ use Rattle.meaning.specs.Sheet.{Row}
 use Rattle.rows.specs.Blocks.{passed, rest, Block, join, deeper, runBlock}
 use Rattle.rows.specs.Counting.{Fresh}
 use Rattle.rows.specs.Balanced.{passed-rest}
-use Rattle.rows.specs.Within.{underRows, GoesOn, ofList, enterRow, run-under, rows-within}
+use Rattle.rows.specs.Within.{underRows, GoesOn, ofList, enterRow, run-under, shallow-rest, rows-within}
+use Rattle.readers.specs.Reads.{yes, no}
 use Rattle.message.specs.Means.{prevWords, wayWords, deedOf, deedWords}
 use Rattle.tables.specs.Words.{Tables}
 use Rattle.tables.specs.Standing.{behind}
@@ -23,12 +24,11 @@ use Rattle.tables.specs.Holding.{Holds, four}
 use Rattle.tables.specs.declared.Counts.{Counts}
 use Rattle.tables.specs.declared.Stop.{Stop}
 use Rattle.apply.specs.Reach.{blockAt, changing}
-use Rattle.apply.specs.Going.{words-long, words-none, inserts-only, goes-on, third-word, Goes, goes, shallow-rest}
+use Rattle.apply.specs.Going.{words-long, words-none, inserts-only, goes-on, third-word, Goes, goes}
 use Rattle.apply.specs.Doing.{isInsert, mayMake, insertsHere, wantOf, Spare, Does, Passes, Arrives, Stays, Leads}
 use Rattle.apply.specs.Doing.{Finishes, Enters, Inserts, Descends}
 use Rattle.apply.specs.declared.Act.{Act}
 use Rattle.apply.specs.declared.Child.{Child}
-use Rattle.apply.proofs.Cases.{yes, no}
 
 empty-list : (xs : List ℕ) → length xs ≡ 0 → xs ≡ []
 empty-list [] e = refl

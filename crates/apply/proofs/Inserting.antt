@@ -9,6 +9,7 @@ use Rattle.meaning.specs.Ways.{Prev, Assigned}
 use Rattle.meaning.specs.Sheet.{inList, Row}
 use Rattle.rows.specs.Blocks.{Block, join, rest, passed, deeper, newRow, giveBlock, insertRows}
 use Rattle.rows.specs.Counting.{newBlock}
+use Rattle.readers.specs.Reads.{yes, no}
 use Rattle.readers.specs.declared.Given.{Given}
 use Rattle.tables.specs.Holding.{Holds, four}
 use Rattle.tables.specs.Parts.{at-behind}
@@ -19,7 +20,6 @@ use Rattle.apply.specs.Reach.{blockAt}
 use Rattle.apply.specs.Doing.{givenIn, Does, Sits, SitsNot, Seats, Gives, Inserts}
 use Rattle.apply.specs.declared.Act.{Act}
 use Rattle.apply.specs.declared.Seat.{Seat}
-use Rattle.apply.proofs.Cases.{yes, no}
 use Rattle.apply.proofs.Leading.{opened-counts}
 
 module _ (o : Act) (n hi len : ℕ) (from : Stop) (c : Counts) (h k m v : List ℕ) (x : Seat)

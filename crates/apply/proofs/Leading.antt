@@ -11,7 +11,7 @@ use Rattle.meaning.specs.Sheet.{Spot, Row}
 use Rattle.theorems.specs.Accepting.{marks-append, values-append}
 use Rattle.rows.specs.Blocks.{passed, rest, newRow, over, at}
 use Rattle.rows.specs.Counting.{Fresh}
-use Rattle.rows.specs.Balanced.{passed-rest, fresh-parts}
+use Rattle.rows.specs.Balanced.{passed-rest, passed-rest-behind, fresh-parts}
 use Rattle.tables.specs.Finds.{Agrees, Tells}
 use Rattle.tables.specs.Standing.{behind}
 use Rattle.tables.specs.Words.{Tables}
@@ -41,10 +41,6 @@ opened-counts T U c e A R n p H N = record {
   values = omega (arith, N .values-are, H .values-are, values-append A R, values-append A (newRow n p ∷ R));
 }
 
--- the rows behind those that were passed over
-split : (A B : List Row) (q : Row → Bool) → A ++ B ≡ (A ++ passed q B) ++ rest q B
-split A B q = ap (A ++_) (sym (passed-rest q B)) ∙ sym (append-assoc A (passed q B) (rest q B))
-
 module _ (h k : List ℕ) (c : Counts) (from t : Stop) (w : Want) (F : FindsIn h k (c .rows) from w t) where
   module _ (m v : List ℕ) (A B : List Row) (pass : Spot → Bool) (H : Holds (four h k m v) c (A ++ B)) (b : from ≡ behind A)
       (g : Agrees w pass) where
@@ -52,7 +48,7 @@ module _ (h k : List ℕ) (c : Counts) (from t : Stop) (w : Want) (F : FindsIn h
     stop = F m v c A B pass H refl b g
 
     held : Holds (four h k m v) c ((A ++ passed (over (w .depth) pass) B) ++ rest (over (w .depth) pass) B)
-    held = subst (Holds (four h k m v) c) (split A B (over (w .depth) pass)) H
+    held = subst (Holds (four h k m v) c) (passed-rest-behind A (over (w .depth) pass) B) H
 
     told : (meant : Spot → Bool) (y : Bool) → Knows h k (c .rows) (t .row) w y → Tells w meant
         → y ≡ begins (w .depth) meant (rest (over (w .depth) pass) B)

@@ -9,7 +9,7 @@ use lib.ListN.{length, getD}
 use Rattle.meaning.specs.Ways.{Prev, head, after}
 use Rattle.meaning.specs.Sheet.{Spot, Row}
 use Rattle.rows.specs.Blocks.{passed, rest, deeper, isId, isGreater, inAMap, over, at, insertRows}
-use Rattle.rows.specs.Balanced.{passed-rest}
+use Rattle.rows.specs.Balanced.{passed-rest, passed-rest-behind}
 use Rattle.message.specs.Means.{prevWords}
 use Rattle.tables.specs.Finds.{wantElement, wantSeat, wantHead, element-agrees, seat-agrees, head-agrees, element-tells}
 use Rattle.tables.specs.Standing.{behind}
@@ -54,9 +54,6 @@ module _ (n i hi len rows : ℕ) (from : Stop) (h k : List ℕ) where
 
   module _ (t : Stop) (l : len ≡ 18 → ⊥) (F : FindsIn h k rows from (wantElement n hi) t) (y : Bool)
       (K : Knows h k rows (t .row) (wantElement n hi) y) where
-    split : (A B : List Row) (q : Row → Bool) → A ++ B ≡ (A ++ passed q B) ++ rest q B
-    split A B q = ap (A ++_) (sym (passed-rest q B)) ∙ sym (append-assoc A (passed q B) (rest q B))
-
     abbrev other : ℕ → Row → Bool
     other e = over n (λ p. not (isId e p))
 
@@ -65,8 +62,8 @@ module _ (n i hi len rows : ℕ) (from : Stop) (h k : List ℕ) where
         → y ≡ begins n (isId hi) (rest (other hi) B)
     told m v c A B H r b =
         let s = F m v c A B _ H r b (element-agrees n hi) in
-        K m v c (A ++ passed (other hi) B) (rest (other hi) B) (isId hi) (subst (Holds (four h k m v) c) (split A B (other hi)) H) r
-        (at-behind t _ s .row) (element-tells n hi)
+        K m v c (A ++ passed (other hi) B) (rest (other hi) B) (isId hi)
+        (subst (Holds (four h k m v) c) (passed-rest-behind A (other hi) B) H) r (at-behind t _ s .row) (element-tells n hi)
 
     pub seat-none : y ≡ false → Seats n hi len i rows from h k (record { there = false; at = t })
     seat-none z m v c A B head H r b w = absurd (after-third hi len l w)

@@ -139,7 +139,8 @@ pub record Arrives (T : Tables) (c : Counts) (x : Child) (n : ℕ) (change : (Bl
   pub values-same : x .counts .values ≡ c .values
 
 -- or nowhere, and nothing is changed
-pub record Stays (h k : List ℕ) (c : Counts) (x : Child) (change : (Block → Block) → List Row) (h′ k′ : List ℕ) (B : List Row) : Type 0 where
+pub record Stays (h k : List ℕ) (c : Counts) (x : Child) (change : (Block → Block) → List Row) (h′ k′ : List ℕ) (B : List Row)
+    : Type 0 where
   pub heads : h′ ≡ h
   pub keys : k′ ≡ k
   pub counts : x .counts ≡ c

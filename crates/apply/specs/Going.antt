@@ -4,15 +4,14 @@ use Prim.Native.Nat.{ℕ, suc, _+_, _≤_, _<_}
 use native.Mathlib.Omega.{arith}
 use mathlib.Core.Path.{_≡_, refl, sym, ap, ap₂, _∙_, subst}
 use mathlib.Core.Bool.{Bool, true, false, cond, not, true≢false}
-use mathlib.Core.List.{List, [], _∷_, _++_}
+use mathlib.Core.List.{List, _∷_}
 use lib.Dec.{ltb, eqb}
 use lib.ListN.{length, getD, drop}
-use borrow.Author.Tests.{ltb-false, lt-ltb, le-ltb, ne-eqb}
+use borrow.Author.Tests.{lt-ltb, le-ltb, ne-eqb}
 use Rattle.meaning.specs.Ways.{Prev, head, after, Assigned, Way, assign, delete, insert, intoMap, intoList, deletes, makes, steps}
 use Rattle.meaning.specs.Valid.{ValidKey, ValidWay}
 use Rattle.meaning.specs.Sheet.{Spot, inMap, inList, Row}
-use Rattle.rows.specs.Blocks.{passed, rest, deeper, keyBelow, isKey, isId, runBlock, atKeyRows, atElementRows}
-use Rattle.rows.specs.Spans.{Shallow}
+use Rattle.rows.specs.Blocks.{keyBelow, isKey, isId, runBlock, atKeyRows, atElementRows}
 use Rattle.rows.specs.Within.{underRows, GoesOn, ofList}
 use Rattle.readers.specs.Words.{pack, keyWords}
 use Rattle.message.specs.Means.{prevWords, wayWords, deedOf, deedWords}
@@ -197,13 +196,3 @@ module _ (i : ℕ) (d : List ℕ) (n : ℕ) where
   goes hi lo len left ks deed (intoList j w) e q v l s x y z t =
       let a : left ≡ length (wayWords w) = omega (arith, t, ap length e) in
       rw (x ∙ ap (λ l. getD l 0 0) e, y ∙ ap (λ l. getD l 1 0) e, z ∙ ap (λ l. getD l 2 0) e, a, q) (goes-element j w (v .1))
-
--- what ends a block isn't deeper
-pub shallow-rest : (n : ℕ) (R : List Row) → Shallow n (rest (deeper n) R)
-unfolding rest
-shallow-rest n [] = tt
-shallow-rest n (r ∷ R) = go (deeper n r) refl (shallow-rest n R)
-  where
-    go : (b : Bool) → deeper n r ≡ b → Shallow n (rest (deeper n) R) → Shallow n (cond b (rest (deeper n) R) (r ∷ R))
-    go true e h = h
-    go false e h = ltb-false n (r .depth) e

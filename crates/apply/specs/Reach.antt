@@ -3,12 +3,13 @@
 -- Assumes nothing.
 use Prim.Native.Nat.{ℕ}
 use mathlib.Core.Path.{_≡_, refl, sym, ap, ap₂, _∙_}
-use mathlib.Core.Bool.{Bool, true, false, cond, not, _&&_, _||_, true≢false, and-false}
+use mathlib.Core.Bool.{Bool, true, false, cond, not, and-false}
 use mathlib.Core.List.{List, [], _∷_, _++_, append-assoc, append-nil}
 use lib.Dec.{eqb}
 use borrow.Author.Tests.{eqb-true}
 use Rattle.meaning.specs.Ways.{Prev, head, after}
 use Rattle.meaning.specs.Sheet.{Spot, Row}
+use Rattle.theorems.specs.Decide.{and-left, or-left}
 use Rattle.rows.specs.Blocks.{passed, rest, Block, join, newRow, deeper, isId, isGreater, inAMap, over, at}
 use Rattle.rows.specs.Blocks.{onBlock, changeHere, seekRows, made, stepOnRows, behindRows, insertRows}
 use Rattle.rows.specs.Balanced.{passed-rest}
@@ -26,14 +27,6 @@ pub record Reached (n : ℕ) (change : (Block → Block) → List Row) (P : List
 -- what a search is for: changing the block of the row that is meant, or of one that is made
 abbrev pub changing : ℕ → (Spot → Bool) → (Spot → Bool) → Bool → Spot → List Row → (Block → Block) → List Row
 changing n pass meant new p B f = seekRows n pass meant f (made new n p f) B
-
-or-left : (a b : Bool) → (a || b) ≡ false → a ≡ false
-or-left false b e = refl
-or-left true b e = absurd (true≢false e)
-
-and-left : (a b : Bool) → (a && b) ≡ true → a ≡ true
-and-left true b e = refl
-and-left false b e = absurd (true≢false (sym e))
 
 -- Where a search stopped there is no deeper row.
 module _ (n : ℕ) (pass : Spot → Bool) where
@@ -122,7 +115,9 @@ never n (r ∷ X) = and-false (eqb (r .depth) n)
 pub step-on : (n : ℕ) (pass : Spot → Bool) (new rs : List Row)
     → stepOnRows n pass new rs ≡ passed (over n pass) rs ++ (new ++ rest (over n pass) rs)
 unfolding stepOnRows seekRows
-step-on n pass new rs = ap (passed (over n pass) rs ++_) (here-none n (λ p. false) (λ b. b) new (rest (over n pass) rs) (never n (rest (over n pass) rs)))
+step-on n pass new rs =
+    let X = rest (over n pass) rs in
+    ap (passed (over n pass) rs ++_) (here-none n (λ p. false) (λ b. b) new X (never n X))
 
 module _ (n i e : ℕ) (new rs : List Row) where
   -- behind the predecessor, and on over what is greater

@@ -277,8 +277,8 @@ fn finish(
     s: Stop,
     o: Act,
 ) -> Counts
-    ensures { λ e. ⌜ Finishes o s c (now (heads .entry)) (now (marks .entry)) (now (values .entry)) e (now (heads .exit)) (now (marks .exit))
-        (now (values .exit)) ⌝ }
+    ensures { λ e. ⌜ Finishes o s c (now (heads .entry)) (now (marks .entry)) (now (values .entry)) e (now (heads .exit))
+        (now (marks .exit)) (now (values .exit)) ⌝ }
 {
     let deed = o.deed;
     let deps = o.deps;

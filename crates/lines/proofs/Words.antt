@@ -11,7 +11,7 @@ use lib.Pow.{pow-add}
 use lib.Seq.{take-suc, take-length, drop-drop, getD-drop}
 use Rattle.meaning.specs.Valid.{Bytes, ValidKey, ValidString}
 use Rattle.readers.specs.Words.{weight, pack, wordsOf}
-use Rattle.readers.specs.Order.{weight-some, pack-small}
+use Rattle.readers.specs.Order.{weight-some, pack-small, bytes-drop}
 use Rattle.writers.specs.Words.{byteOf, bytesOf}
 
 weight-pow : (m : ℕ) → weight m ≡ 256 ^ m
@@ -38,11 +38,6 @@ packed (suc m) (suc i) r (x ∷ k) e b =
     let g : x * 256 ^ suc i ≡ x * 256 ^ i * 256 = ap (λ n. x * n) (pow-suc 256 i) ∙ sym (mul-assoc x (256 ^ i) 256) in
     let h : (x * 256 ^ suc i + pack m k / weight r) % 256 ≡ pack m k / weight r % 256 = omega arith in
     ap (λ n. n % 256) d ∙ (h ∙ packed m i r k (omega arith) (b .1))
-
-bytes-drop : (n : ℕ) (k : List ℕ) → Bytes k → Bytes (drop n k)
-bytes-drop zero k b = b
-bytes-drop (suc n) [] b = tt
-bytes-drop (suc n) (x ∷ k) b = bytes-drop n k (b .1)
 
 word-at : (n j : ℕ) (k : List ℕ) → j < n → getD (wordsOf n k) j 0 ≡ pack 8 (drop (8 * j) k)
 unfolding wordsOf

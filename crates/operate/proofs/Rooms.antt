@@ -3,7 +3,7 @@
 use Prim.Native.Nat.{ℕ, suc, _+_, _≤_, _<_}
 use native.Mathlib.Omega.{arith}
 use mathlib.Core.Path.{_≡_, refl, sym, ap, ap₂, _∙_}
-use mathlib.Core.Bool.{Bool, true, false, cond, _&&_, true≢false}
+use mathlib.Core.Bool.{Bool, true, false, cond, _&&_}
 use mathlib.Core.List.{List, [], _∷_}
 use lib.Dec.{leb}
 use lib.ListN.{length}
@@ -25,7 +25,6 @@ use Rattle.rows.specs.Balanced.{apply-balance}
 use Rattle.rows.specs.Within.{underChange, change-under}
 use Rattle.rows.specs.Room.{room, roomFor, sound-fresh, room-rows}
 use Rattle.tables.specs.Words.{Tables}
-use Rattle.tables.specs.Seek.{holdsIf}
 use Rattle.tables.specs.declared.Counts.{Counts}
 use Rattle.weigh.specs.Weighs.{Weighs}
 use Rattle.weigh.specs.declared.Weight.{Weight}
@@ -118,12 +117,3 @@ module _ (c : Counts) (w : Weight) where
       → leb (c .values + w .values) (256 + w .«gone_values») ≡ hasRoom c w
   unfolding hasRoom
   the-values h k = rw (le-leb (c .rows + w .places) 256 h, le-leb (c .marks + w .marks) (1024 + w .«gone_marks») k)
-
--- what a test says
-pub small-is : (b : Bool) (P : Type 0) → b ≡ true → holdsIf b P → P
-small-is true P e x = x
-small-is false P e x = absurd (true≢false (sym e))
-
-pub small-not : (b : Bool) (P : Type 0) → b ≡ false → holdsIf b P → P → ⊥
-small-not true P e x = absurd (true≢false e)
-small-not false P e x = x

@@ -103,8 +103,8 @@ fn judge_way(
     words: &[u64],
     n: usize,
 ) -> Judged
-    ensures { λ r. ⌜ JudgesWay (four (now (heads .entry)) (now (keys .entry)) (now (marks .entry)) (now (values .entry))) c id (deps .at) deed
-        (now (words .entry)) n r ⌝ }
+    ensures { λ r. ⌜ JudgesWay (four (now (heads .entry)) (now (keys .entry)) (now (marks .entry)) (now (values .entry))) c id (deps .at)
+        deed (now (words .entry)) n r ⌝ }
 {
     if n > 8 {
         return Judged::NoElement;

@@ -1,9 +1,9 @@
 -- Document 01, "Messages": what each reader takes. A layout says which things are valid, their texts, and what may follow; a reader answers
 -- the thing whose text stands at a place, or that none does.
--- Assumes nothing: these are definitions.
+-- Assumes nothing: these are definitions, and two laws of `either`.
 use Prim.Native.Nat.{ℕ, _≤_}
-use mathlib.Core.Path.{_≡_}
-use mathlib.Core.Bool.{Bool, true, false}
+use mathlib.Core.Path.{_≡_, sym}
+use mathlib.Core.Bool.{Bool, true, false, true≢false}
 use mathlib.Core.List.{List, [], _∷_, _++_}
 use lib.IntN.{ℤ, pos, negsuc}
 use lib.ListN.{length}
@@ -72,9 +72,19 @@ abbrev pub ReadsId : List ℕ → ℕ → IdRead → Type 0
 ReadsId s a (I.Found i n) = Took ids s a i n
 ReadsId s a I.Bad = Never ids s a
 
+-- one of two things, by a test
 abbrev pub either : Bool → Type 0 → Type 0 → Type 0
 either true A B = A
 either false A B = B
+
+module _ (A B : Type 0) where
+  pub yes : (b : Bool) → b ≡ true → either b A B → A
+  yes true e x = x
+  yes false e x = absurd (true≢false (sym e))
+
+  pub no : (b : Bool) → b ≡ false → either b A B → B
+  no true e x = absurd (true≢false e)
+  no false e x = x
 
 abbrev pub ReadsCounters : List ℕ → ℕ → CountersRead → Type 0
 ReadsCounters s a r = either (r .ok) (Took counters s a (r .counters .at) (r .next)) (Never counters s a)

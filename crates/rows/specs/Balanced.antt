@@ -5,7 +5,7 @@ use Prim.Native.Nat.{ℕ, suc, _+_, _-_, _≤_}
 use native.Mathlib.Omega.{arith}
 use mathlib.Core.Path.{_≡_, refl, sym, ap, _∙_, subst}
 use mathlib.Core.Bool.{Bool, true, false, cond, not, _&&_}
-use mathlib.Core.List.{List, [], _∷_, _++_, map}
+use mathlib.Core.List.{List, [], _∷_, _++_, map, append-assoc}
 use mathlib.Core.Logic.{inl, inr}
 use lib.Dec.{eqb}
 use lib.ListN.{length, length-append}
@@ -68,7 +68,8 @@ pub clear-values-length : (d : List ℕ) (r : Row) → length (clearValues d (r 
 unfolding clearValues
 clear-values-length d r = keep-length (λ v. uncovered d (v .id)) (r .values)
 
-pub fresh-clear-values : (d : List ℕ) (r : Row) (i : ℕ) → (Has idOfValue i (r .values) → ⊥) → Has idOfValue i (clearValues d (r .values)) → ⊥
+pub fresh-clear-values : (d : List ℕ) (r : Row) (i : ℕ) → (Has idOfValue i (r .values) → ⊥)
+    → Has idOfValue i (clearValues d (r .values)) → ⊥
 unfolding clearValues
 fresh-clear-values d r i n h = n (has-keep idOfValue (λ v. uncovered d (v .id)) i (r .values) h)
 
@@ -107,6 +108,10 @@ passed-rest p (r ∷ rs) = go (p r) (passed-rest p rs)
     go : (b : Bool) → passed p rs ++ rest p rs ≡ rs → cond b (r ∷ passed p rs) [] ++ cond b (rest p rs) (r ∷ rs) ≡ r ∷ rs
     go true h = ap (r ∷_) h
     go false h = refl
+
+-- the same, behind other rows
+pub passed-rest-behind : (xs : List Row) (p : Row → Bool) (rs : List Row) → xs ++ rs ≡ (xs ++ passed p rs) ++ rest p rs
+passed-rest-behind xs p rs = ap (xs ++_) (sym (passed-rest p rs)) ∙ sym (append-assoc xs (passed p rs) (rest p rs))
 
 pub fresh-append : (i : ℕ) (xs ys : List Row) → Fresh i (xs ++ ys) → Fresh i xs × Fresh i ys
 fresh-append i [] ys h = (tt, h)

@@ -7,7 +7,7 @@ use native.Mathlib.Omega.{arith}
 use mathlib.Core.Path.{_≡_, refl, sym, ap, ap₂, _∙_}
 use mathlib.Core.Bool.{Bool, true, false, cond, not, _&&_}
 use mathlib.Core.List.{List, [], _∷_, _++_, append-assoc, append-nil}
-use borrow.Author.Tests.{le-ltb, ne-eqb}
+use borrow.Author.Tests.{le-ltb, ltb-false, ne-eqb}
 use Rattle.meaning.specs.Ids.{covered}
 use Rattle.meaning.specs.Ways.{Assigned, Prev, head, after, Way, assign, delete, insert, intoMap, intoList, Operation, deletes, makes}
 use Rattle.meaning.specs.Sheet.{Spot, inMap, inList, Row}
@@ -15,7 +15,8 @@ use Rattle.rows.specs.Blocks.{passed, rest, Block, join, newRow, mapRow,
 use Rattle.rows.specs.Blocks.{onBlock, changeHere, seekRows, atKeyRows, atElementRows, stepOnRows, behindRows, insertRows}
 use Rattle.rows.specs.Blocks.{giveBlock, passingRow, runBlock, applyRows}
 use Rattle.rows.specs.Spans.{Shallow}
-use Rattle.rows.specs.Locate.{Located, nowhere, here, locateHere, locate, locateKey, locateElement, underOf, isLocated, ledRows, astrayRows}
+use Rattle.rows.specs.Locate.{Located, nowhere, here, locateHere, locate, locateKey, locateElement, underOf, isLocated}
+use Rattle.rows.specs.Locate.{ledRows, astrayRows}
 use Rattle.rows.specs.Counting.{Change, noChange, both, newChange, passingChange, newBlock, foundChange, isPrev, runChange, change}
 
 -- what an operation does among the rows behind a place
@@ -84,6 +85,16 @@ change-under o rs = refl
 pub astray-under : (o : Operation) (rs : List Row) → astrayRows o rs ≡ not (ledRows (o .deps) 1 (intoMap (o .top) (o .way)) rs)
 unfolding astrayRows ledRows
 astray-under o rs = refl
+
+-- what ends a block isn't deeper
+pub shallow-rest : (n : ℕ) (R : List Row) → Shallow n (rest (deeper n) R)
+unfolding rest
+shallow-rest n [] = tt
+shallow-rest n (r ∷ R) = go (deeper n r) refl (shallow-rest n R)
+  where
+    go : (b : Bool) → deeper n r ≡ b → Shallow n (rest (deeper n) R) → Shallow n (cond b (rest (deeper n) R) (r ∷ R))
+    go true e h = h
+    go false e h = ltb-false n (r .depth) e
 
 -- A search stops at once.
 
@@ -257,4 +268,6 @@ module _ (n : ℕ) (R : List Row) (h : Shallow n R) where
   led-within d (insert (after e) a) us = ap (λ l. covered d e && isLocated l) (element-within e us)
   led-within d (intoMap k w) us = ap (λ l. ledRows d (suc (suc n)) w (underOf l)) (key-within k us)
   led-within d (intoList e w) us =
-      ap (λ l. covered d e && elim l as (λ l. Bool) [ nowhere ↦ false | here b ↦ ledRows d (suc (suc n)) w (b .under) ]) (element-within e us)
+      ap
+      (λ l. covered d e && elim l as (λ l. Bool) [ nowhere ↦ false | here b ↦ ledRows d (suc (suc n)) w (b .under) ])
+      (element-within e us)

@@ -17,6 +17,7 @@ use Rattle.meaning.specs.Load.{marksIn, valuesIn}
 use Rattle.meaning.specs.Sheet.{Spot, inMap, inList, Row, rowsOf, Line, placeLine, markLine, valueLine, endLine, lineText, linesText}
 use Rattle.meaning.specs.Sheet.{rowLines, rowsLines, sheetLines, sheet}
 use Rattle.theorems.specs.Accepting.{marks-append, values-append}
+use Rattle.theorems.specs.Sizes.{lines-append}
 use Rattle.readers.specs.Words.{pack, wordsOf}
 use Rattle.writers.specs.declared.Kind.the-variants.{String}
 use Rattle.writers.proofs.Over.{append-none}
@@ -37,11 +38,6 @@ use Rattle.sheet.specs.Texts.{kindIn, spotIn, placeText, valueAt, valueT
 use Rattle.sheet.specs.Texts.{marksText, valuesText, headAt, rowText, rowsText, sheetText}
 use Rattle.sheet.specs.Saving.{ValidRow}
 use Rattle.sheet.proofs.Rows.{row-text}
-
-lines-append : (a b : List Line) → linesText (a ++ b) ≡ linesText a ++ linesText b
-unfolding linesText
-lines-append [] b = refl
-lines-append (l ∷ a) b = ap (lineText l ++_) (lines-append a b) ∙ sym (append-assoc (lineText l) (linesText a) (linesText b))
 
 one-line : (l : Line) → linesText (l ∷ []) ≡ lineText l
 unfolding linesText

@@ -21,12 +21,13 @@ use Rattle.words.proofs.Tables.{kept-closed}
 use Rattle.tables.specs.Words.{headWord, valueWords, valuesAt, valuesOf, pad}
 use Rattle.tables.specs.Holding.{marksRoom, valuesRoom}
 use Rattle.tables.specs.Parts.{at-behind}
+use Rattle.tables.specs.Values.{strides-value}
 use Rattle.tables.specs.declared.Counts.{Counts}
 use Rattle.tables.specs.declared.Stop.{Stop}
 use Rattle.steps.specs.Steps.{Drops}
 use Rattle.steps.proofs.Changed.{marks-same, changed}
 use Rattle.steps.proofs.Placed.{placed}
-use Rattle.steps.proofs.Values.{strides-values, among-is, kept-is, values-kept}
+use Rattle.steps.proofs.Values.{among-is, kept-is, values-kept}
 
 pub drops : (s : Stop) (d : List ℕ) (n end gone : ℕ) (c : Counts) (h v v₁ v₂ : List ℕ) → 6 * c .values ≤ length v → s .value ≤ c .values
     → n ≤ c .values - s .value → n ≡ valuesAt (getD h (s .row) 0)
@@ -44,7 +45,7 @@ drops s d n end gone c h v v₁ v₂ a b x y K o z k m A R r H t =
     let i : n ≡ length (r .values) = y ∙ P .values in
     let f : F ≡ 6 * valuesIn A = omega (arith, p .value) in
     let w : keepRows 6 (uncovered d) n (drop F v) ≡ flat valueWords left = rw i (kept-is A R r v (H .values) F f (uncovered d)) in
-    let u : length (flat valueWords left) ≡ length left * 6 = flat-length 6 valueWords idOfValue strides-values left in
+    let u : length (flat valueWords left) ≡ length left * 6 = flat-length 6 valueWords idOfValue strides-value left in
     let j : length left ≤ length (r .values) = keep-length (λ v. uncovered d (v .id)) (r .values) in
     let q : end ≡ F + length left * 6 = K .next ∙ ap (λ l. F + length l) w ∙ ap (F +_) u in
     let g : gone ≡ length (r .values) - length left = omega arith in

@@ -4,7 +4,7 @@ use Prim.Native.Nat.{ℕ, _+_, _*_, _-_, _≤_}
 use native.Mathlib.Omega.{arith}
 use mathlib.Core.Path.{_≡_, refl, ap, _∙_}
 use mathlib.Core.Bool.{Bool}
-use mathlib.Core.List.{List, [], _∷_, _++_}
+use mathlib.Core.List.{List, _∷_, _++_}
 use lib.ListN.{length, drop, replicate}
 use lib.Seq.{drop-at}
 use Rattle.meaning.specs.Members.{Has, Ascending, idOfValue}
@@ -13,21 +13,14 @@ use Rattle.meaning.specs.Sets.{keep, put}
 use Rattle.meaning.specs.Load.{valuesIn}
 use Rattle.meaning.specs.Sheet.{Row}
 use Rattle.words.specs.Words.{inserted, shrunk}
-use Rattle.words.specs.Rows.{rankOf, rankRows, keepRows, flat, Strides}
+use Rattle.words.specs.Rows.{rankOf, rankRows, keepRows, flat}
 use Rattle.words.proofs.Flat.{flat-keep, flat-rank}
-use Rattle.tables.specs.Words.{valueWords, eachValue, valuesOf, pad}
+use Rattle.tables.specs.Words.{valueWords, valuesOf, pad}
 use Rattle.tables.specs.Holding.{valuesRoom}
-use Rattle.tables.specs.Parts.{plain-six, values-length, values-of-append, values-parts}
+use Rattle.tables.specs.Parts.{values-length, values-of-append, values-parts}
+use Rattle.tables.specs.Values.{strides-value, each-flat}
 use Rattle.words.proofs.Padded.{put-pad, keep-pad}
 use Rattle.steps.proofs.Changed.{values-between}
-
-pub strides-values : Strides 6 valueWords idOfValue
-strides-values = record { some = omega arith; wide = λ v. omega (arith, plain-six (v .val)); first = λ v. refl }
-
-pub each-flat : (vs : List Value) → eachValue vs ≡ flat valueWords vs
-unfolding eachValue flat
-each-flat [] = refl
-each-flat (v ∷ vs) = ap (valueWords v ++_) (each-flat vs)
 
 -- The words of the rows A, then of the values vs, then of the rows R.
 abbrev pub among : List Row → List Value → List Row → List ℕ
@@ -50,10 +43,10 @@ module _ (A R : List Row) (r : Row) (v : List ℕ) (e : v ≡ pad valuesRoom (va
       (drop-at (valuesOf A) (flat valueWords (r .values) ++ (valuesOf R ++ z)) from (omega (arith, values-length A)))
 
   pub rank-is : (id : ℕ) → rankRows 6 id (length (r .values)) (drop from v) ≡ rankOf idOfValue id (r .values)
-  rank-is id = rw values-from (flat-rank 6 valueWords idOfValue strides-values id (r .values) later)
+  rank-is id = rw values-from (flat-rank 6 valueWords idOfValue strides-value id (r .values) later)
 
   pub kept-is : (p : ℕ → Bool) → keepRows 6 p (length (r .values)) (drop from v) ≡ flat valueWords (keep (λ x. p (x .id)) (r .values))
-  kept-is p = rw values-from (flat-keep 6 valueWords idOfValue strides-values p (r .values) later)
+  kept-is p = rw values-from (flat-keep 6 valueWords idOfValue strides-value p (r .values) later)
 
   module _ (live : ℕ) (l : live ≡ 6 * valuesIn (A ++ r ∷ R)) where
     -- one more among them
@@ -63,7 +56,7 @@ module _ (A R : List Row) (r : Row) (v : List ℕ) (e : v ≡ pad valuesRoom (va
     value-put a k at s o q p h =
         let d = values-between A r R in
         ap (inserted live at (valueWords a)) (e ∙ ap (pad valuesRoom) (among-is A r R))
-        ∙ put-pad 6 valueWords idOfValue strides-values valuesRoom from k at live (valuesOf A) (valuesOf R) a (r .values) s o
+        ∙ put-pad 6 valueWords idOfValue strides-value valuesRoom from k at live (valuesOf A) (valuesOf R) a (r .values) s o
         (omega (arith, values-length A)) q p (omega (arith, values-length R)) h
 
     -- fewer of them
@@ -73,5 +66,5 @@ module _ (A R : List Row) (r : Row) (v : List ℕ) (e : v ≡ pad valuesRoom (va
     values-kept q h =
         let d = values-between A r R in
         ap (shrunk 0 live (from + length (r .values) * 6) from (flat valueWords (keep q (r .values)))) (e ∙ ap (pad valuesRoom) (among-is A r R))
-        ∙ keep-pad 6 valueWords idOfValue strides-values valuesRoom from (from + length (r .values) * 6) live (valuesOf A) (valuesOf R) q
+        ∙ keep-pad 6 valueWords idOfValue strides-value valuesRoom from (from + length (r .values) * 6) live (valuesOf A) (valuesOf R) q
         (r .values) (omega (arith, values-length A)) refl (omega (arith, values-length R)) h

@@ -1,4 +1,5 @@
--- What the single steps over the tables promise: if the tables held these rows, they hold those afterwards. A step changes one row, or opens one.
+-- What the single steps over the tables promise: if the tables held these rows, they hold those afterwards. A step changes one row, or
+-- opens one.
 -- h, k, m, v are the words of the tables heads, keys, marks, values; primed ones are those afterwards; c and e the counts before and after.
 -- A table that a step isn't lent is any, and the same afterwards. Memory that holds no rows is promised nothing.
 -- Assumes nothing: these are definitions.

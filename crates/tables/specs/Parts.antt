@@ -13,7 +13,8 @@ use Rattle.meaning.specs.Load.{marksIn, valuesIn}
 use Rattle.meaning.specs.Sheet.{Row}
 use Rattle.theorems.specs.Accepting.{marks-append, values-append}
 use Rattle.words.proofs.Padded.{pad-length}
-use Rattle.tables.specs.Words.{valueWords, plainWords, eachValue, headWord, spotWords, headsOf, keysOf, marksOf, valuesOf, pad, Tables}
+use Rattle.tables.specs.Words.{valueWords, plainWords, eachValue, headWord, spotWords, Tables}
+use Rattle.tables.specs.Words.{headsOf, keysOf, marksOf, valuesOf, pad}
 use Rattle.tables.specs.Finds.{Narrow, AllNarrow, past, after}
 use Rattle.tables.specs.Standing.{first, behind, heads-append, keys-append, heads-length, keys-length}
 use Rattle.tables.specs.Holding.{headsRoom, keysRoom, marksRoom, valuesRoom, Good, Holds}

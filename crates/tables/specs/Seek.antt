@@ -6,6 +6,7 @@ use mathlib.Core.List.{List, [], _∷_}
 use lib.Dec.{ltb, eqb}
 use lib.ListN.{length, getD, take, drop}
 use Rattle.meaning.specs.Places.{Turn, before, equal, beyond, order}
+use Rattle.readers.specs.Reads.{either}
 use Rattle.tables.specs.Words.{depthIn, sideIn, marksAt, valuesAt}
 use Rattle.tables.specs.declared.Stop.{Stop}
 use Rattle.tables.specs.declared.Want.{Want}
@@ -72,8 +73,7 @@ pub record Searches (heads keys : List ℕ) (rows : ℕ) (s : Stop) : Type 0 whe
 
 -- a test says whether something holds
 abbrev pub holdsIf : Bool → Type 0 → Type 0
-holdsIf true P = P
-holdsIf false P = P → ⊥
+holdsIf b P = either b P (P → ⊥)
 
 -- in tables with this many rows
 abbrev pub sought : Want → List ℕ → List ℕ → ℕ → Stop → Stop

@@ -9,7 +9,6 @@ use lib.ListN.{length, length-append}
 use Rattle.meaning.specs.Sets.{keep}
 use Rattle.meaning.specs.Places.{Document}
 use Rattle.meaning.specs.Ways.{Operation}
-use Rattle.meaning.specs.Members.{All}
 use Rattle.meaning.specs.Receive.{Terminal, dead, able}
 use Rattle.theorems.specs.Invariant.{Sent}
 use Rattle.theorems.specs.Keep.{keep-nil, keep-yes, keep-no, keep-append}
@@ -17,7 +16,7 @@ use Rattle.tables.specs.Words.{Tables}
 use Rattle.operate.specs.Judging.{isTaken, verdict}
 use Rattle.operate.specs.declared.Judged.{Judged}
 use Rattle.waiting.specs.Waits.{Waits, Gone, TakesOut}
-use Rattle.waiting.proofs.Holds.{all-at}
+use Rattle.waiting.proofs.Holds.{all-at, all-but}
 use Rattle.terminal.specs.declared.State.{State}
 use Rattle.terminal.specs.declared.Swept.{Swept}
 use Rattle.terminal.specs.Verdicts.{deadly}
@@ -39,10 +38,6 @@ live-alive : (D : Document) (A : List Operation) (o : Operation) → dead D o �
 live-alive D A o e =
     keep-append (λ o. not (dead D o)) A (o ∷ [])
     ∙ ap (λ z. live D A ++ z) (keep-yes (λ o. not (dead D o)) o [] (ap not e) ∙ ap (o ∷_) (keep-nil (λ o. not (dead D o))))
-
-all-but : (P : Operation → Type 0) (A R : List Operation) (o : Operation) → All P (A ++ o ∷ R) → All P (A ++ R)
-all-but P [] R o h = h .1
-all-but P (x ∷ A) R o h = (h .0, all-but P A R o (h .1))
 
 -- the terminal with these waiting operations
 abbrev pub waitingFor : Terminal → List Operation → Terminal

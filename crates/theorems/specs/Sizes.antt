@@ -164,7 +164,8 @@ spot-short s rs (inMap k) m l c h =
 spot-short s rs (inList i) m l c h =
     omega (arith, length-append (flagsText m l) (idText i), flags-length m l, seen-short s i c (h .0))
 
-lines-append : (xs ys : List Line) → linesText (xs ++ ys) ≡ linesText xs ++ linesText ys
+-- lines behind lines, as text
+pub lines-append : (xs ys : List Line) → linesText (xs ++ ys) ≡ linesText xs ++ linesText ys
 unfolding linesText
 lines-append [] ys = refl
 lines-append (x ∷ xs) ys = ap (lineText x ++_) (lines-append xs ys) ∙ sym (append-assoc (lineText x) (linesText xs) (linesText ys))

@@ -60,7 +60,7 @@ pub all-at : {X : Type 0} (P : X → Type 0) (A R : List X) (o : X) → All P (A
 all-at P [] R o h = h .0
 all-at P (x ∷ A) R o h = all-at P A R o (h .1)
 
-all-but : {X : Type 0} (P : X → Type 0) (A R : List X) (o : X) → All P (A ++ o ∷ R) → All P (A ++ R)
+pub all-but : {X : Type 0} (P : X → Type 0) (A R : List X) (o : X) → All P (A ++ o ∷ R) → All P (A ++ R)
 all-but P [] R o h = h .1
 all-but P (x ∷ A) R o h = (h .0, all-but P A R o (h .1))
 

@@ -21,11 +21,12 @@ use Rattle.tables.specs.Seek.{further}
 use Rattle.tables.specs.Standing.{behind}
 use Rattle.tables.specs.Holding.{Holds, four}
 use Rattle.tables.specs.Parts.{at-behind}
+use Rattle.tables.specs.Values.{strides-value, each-flat}
 use Rattle.tables.specs.declared.Counts.{Counts}
 use Rattle.tables.specs.declared.Stop.{Stop}
 use Rattle.weigh.specs.declared.Lost.{Lost}
 use Rattle.weigh.specs.Goes.{Goes, RowGone, UnderGone}
-use Rattle.weigh.proofs.Here.{strides-values, flat-values, Here, here, here-past, Between, between}
+use Rattle.weigh.proofs.Here.{Here, here, here-past, Between, between}
 
 abbrev pub nothing : Lost
 nothing = record { marks = 0; values = 0 }
@@ -56,11 +57,11 @@ module _ (heads marks values : List ℕ) (s : Stop) (d : List ℕ) where
       (subst (λ n. a + length (keep (uncovered d) (run (s .mark) n marks)) ≡ n) (h .marks) p) in
       let k : keepRows 6 (uncovered d) (length vs) (drop (s .value * 6) values)
       ≡ flat valueWords (keep (λ v. uncovered d (v .id)) vs) =
-      ap (keepRows 6 (uncovered d) (length vs)) (h .values-drop ∙ ap (_++ h .behind-values) (sym (flat-values vs)))
-      ∙ flat-keep 6 valueWords idOfValue strides-values (uncovered d) vs (h .behind-values) in
+      ap (keepRows 6 (uncovered d) (length vs)) (h .values-drop ∙ ap (_++ h .behind-values) (each-flat vs))
+      ∙ flat-keep 6 valueWords idOfValue strides-value (uncovered d) vs (h .behind-values) in
       let q′ : b * 6 + length (keepRows 6 (uncovered d) (length vs) (drop (s .value * 6) values)) ≡ length vs * 6 =
       subst (λ n. b * 6 + length (keepRows 6 (uncovered d) n (drop (s .value * 6) values)) ≡ n * 6) (h .values) q in
-      let l = ap length k ∙ flat-length 6 valueWords idOfValue strides-values (keep (λ v. uncovered d (v .id)) vs) in
+      let l = ap length k ∙ flat-length 6 valueWords idOfValue strides-value (keep (λ v. uncovered d (v .id)) vs) in
       record { marks = omega arith; values = omega arith }
 
   pub row-gone : (a b : ℕ)

@@ -2,18 +2,15 @@
 -- Assumes nothing.
 use Prim.Native.Nat.{ℕ, _+_, _*_, _-_, _≤_, _<_}
 use native.Mathlib.Omega.{arith}
-use mathlib.Core.Path.{_≡_, refl, sym, ap, _∙_}
+use mathlib.Core.Path.{_≡_, sym, ap, _∙_}
 use mathlib.Core.List.{List, [], _∷_, _++_}
 use lib.ListN.{length, take, drop, getD, replicate, length-append}
 use lib.Seq.{getD-at, drop-at, take-append-seam}
-use Rattle.meaning.specs.Places.{Value}
 use Rattle.meaning.specs.Load.{marksIn, valuesIn}
 use Rattle.meaning.specs.Sheet.{Row}
-use Rattle.meaning.specs.Members.{idOfValue}
 use Rattle.theorems.specs.Accepting.{marks-append, values-append}
 use Rattle.words.specs.Words.{run}
-use Rattle.words.specs.Rows.{flat, Strides}
-use Rattle.tables.specs.Words.{headWord, valueWords, eachValue, headsOf, marksOf, valuesOf, depthIn, marksAt, valuesAt, Tables}
+use Rattle.tables.specs.Words.{headWord, eachValue, headsOf, marksOf, valuesOf, depthIn, marksAt, valuesAt, Tables}
 use Rattle.tables.specs.Seek.{further}
 use Rattle.tables.specs.Finds.{Narrow, AllNarrow, past, after, depth-in, marks-in, values-in}
 use Rattle.tables.specs.Standing.{first, behind, after-more, heads-length}
@@ -21,15 +18,6 @@ use Rattle.tables.specs.Holding.{valuesRoom, Holds}
 use Rattle.tables.specs.Parts as P
 use Rattle.tables.specs.declared.Counts.{Counts}
 use Rattle.tables.specs.declared.Stop.{Stop}
-
--- values as rows of six words
-pub strides-values : Strides 6 valueWords idOfValue
-strides-values = record { some = omega arith; wide = λ v. omega (arith, P.plain-six (v .val)); first = λ v. refl }
-
-pub flat-values : (vs : List Value) → flat valueWords vs ≡ eachValue vs
-unfolding flat eachValue
-flat-values [] = refl
-flat-values (v ∷ vs) = ap (valueWords v ++_) (flat-values vs)
 
 pub record Here (T : Tables) (c : Counts) (s : Stop) (r : Row) : Type 0 where
   pub live : s .row < c .rows
@@ -63,17 +51,13 @@ between T c s a b h e =
       value = omega (arith, at .value, values-append a b, h .values-are, h .values-fit);
     }
 
-all-narrow : (a : List Row) (r : Row) (b : List Row) → AllNarrow (a ++ r ∷ b) → Narrow r
-unfolding AllNarrow
-all-narrow [] r b h = h .0
-all-narrow (x ∷ a) r b h = all-narrow a r b (h .1)
-
 module _ (T : Tables) (c : Counts) (s : Stop) (a : List Row) (r : Row) (b : List Row) (h : Holds T c (a ++ r ∷ b)) (e : s ≡ behind a) where
   at : P.At s a
   at = P.at-behind s a e
 
   narrow : Narrow r
-  narrow = all-narrow a r b (P.holds-narrow T c (a ++ r ∷ b) h)
+  unfolding AllNarrow
+  narrow = P.all-narrow-right a (r ∷ b) (P.holds-narrow T c (a ++ r ∷ b) h) .0
 
   marks-sum : marksIn (a ++ r ∷ b) ≡ marksIn a + (length (r .marks) + marksIn b)
   unfolding marksIn

@@ -3,16 +3,18 @@
 use Prim.Native.Nat.{ℕ}
 use native.Mathlib.Omega.{arith}
 use mathlib.Core.Path.{_≡_, refl, sym, ap, _∙_, subst}
-use mathlib.Core.Bool.{Bool, true, false, cond, not, _&&_}
-use mathlib.Core.List.{List, [], _∷_, _++_, append-assoc}
+use mathlib.Core.Bool.{Bool, true, false, cond, not}
+use mathlib.Core.List.{List, [], _∷_, _++_}
 use borrow.Author.Tests.{ne-eqb, eqb-true}
 use lib.Dec.{eqb}
 use lib.ListN.{length}
 use Rattle.meaning.specs.Valid.{ValidKey}
 use Rattle.meaning.specs.Sheet.{Spot, inMap, inList, Row}
+use Rattle.theorems.specs.Decide.{and-left}
 use Rattle.rows.specs.Blocks.{join, passed, rest, deeper, over, at, keyBelow, isKey, isId}
 use Rattle.rows.specs.Locate.{nowhere, here, locateHere, locate}
 use Rattle.rows.specs.Counting.{goneMarks, goneValues, newBlock}
+use Rattle.rows.specs.Balanced.{passed-rest-behind}
 use Rattle.tables.specs.Finds.{GoodSpot, Agrees, Tells, wantKey, wantElement, key-agrees, element-agrees, key-tells, element-tells}
 use Rattle.tables.specs.Words.{spotWords}
 use Rattle.tables.specs.Standing.{behind}
@@ -29,15 +31,6 @@ use Rattle.weigh.specs.Weighs.{wantOf, Sees, missing, standing, Looks, S
 pub false-true : (b : Bool) → b ≡ false → b ≡ true → ⊥
 false-true b f t = let z : _≡_ {A = ℕ} 0 1 = ap (λ b. cond b 1 0) (sym f ∙ t) in omega arith
 
-pub passed-rest : (p : Row → Bool) (rs : List Row) → rs ≡ passed p rs ++ rest p rs
-unfolding passed rest
-passed-rest p [] = refl
-passed-rest p (r ∷ rs) = go (p r) (passed-rest p rs)
-  where
-    go : (b : Bool) → rs ≡ passed p rs ++ rest p rs → r ∷ rs ≡ cond b (r ∷ passed p rs) [] ++ cond b (rest p rs) (r ∷ rs)
-    go true e = ap (r ∷_) e
-    go false e = refl
-
 -- nothing hangs there
 pub looks-none : (h k : List ℕ) (rows : ℕ) (from : Stop) (n : ℕ) (hangs : Bool) (hi lo len : ℕ) (s : Sight) → s .there ≡ false
     → hangs ≡ false → Looks h k rows from n hangs hi lo len s
@@ -46,10 +39,6 @@ looks-none h k rows from n hangs hi lo len s e z m v c A B pass meant H q f a t 
     missing e (ap (λ b. locate n pass meant (cond b B [])) z)
 
 -- the first row that isn't passed over, if it is the one that is meant
-and-left : (a b : Bool) → a && b ≡ true → a ≡ true
-and-left true b e = refl
-and-left false b e = e
-
 sees-first : (rs : List Row) (n : ℕ) (meant : Spot → Bool) (s : Sight) (F B : List Row) → rs ≡ F ++ B → s .at ≡ behind F
     → s .there ≡ begins n meant B → Sees rs n s (locateHere n meant B)
 unfolding locateHere
@@ -75,7 +64,7 @@ looks-found h k rows from n hangs hi lo len w s b x e find know m v c A B pass m
     let t′ : Tells w meant = subst (λ w. Tells w meant) (sym e) t in
     let d : w .depth ≡ n = ap (λ w. w .depth) e in
     let g : s ≡ behind F = find m v c A B pass H q (f x) a′ ∙ ap (λ n. behind (A ++ passed (over n pass) B)) d in
-    let z : A ++ B ≡ F ++ rest o B = ap (A ++_) (passed-rest o B) ∙ sym (append-assoc A (passed o B) (rest o B)) in
+    let z = passed-rest-behind A o B in
     let K = subst (Holds (four h k m v) c) z H in
     let y : b ≡ begins n meant (rest o B) =
     know m v c F (rest o B) meant K q (at-behind s F g .row) t′ ∙ ap (λ n. begins n meant (rest o B)) d in

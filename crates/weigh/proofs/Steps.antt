@@ -4,9 +4,8 @@ use Prim.Native.Nat.{ℕ, suc, _+_, _-_, _≤_, _<_}
 use native.Mathlib.Omega.{arith}
 use native.Mathlib.Numerals.{add-one}
 use mathlib.Core.Path.{_≡_, refl, sym, ap, _∙_, subst}
-use mathlib.Core.Bool.{Bool, true, false, cond}
+use mathlib.Core.Bool.{Bool, true, cond}
 use mathlib.Core.List.{List, [], _∷_, _++_, append-assoc, append-nil}
-use borrow.Author.Tests.{ltb-false}
 use lib.Dec.{eqb}
 use lib.ListN.{length, getD, take, drop, length-drop}
 use lib.Seq.{take-all}
@@ -15,9 +14,9 @@ use Rattle.meaning.specs.Valid.{ValidWay}
 use Rattle.meaning.specs.Ways.{Prev, head, after, Way, assign, delete, insert, intoMap, intoList, steps, makes}
 use Rattle.meaning.specs.Sheet.{Spot, inMap, inList, Row}
 use Rattle.rows.specs.Blocks.{passed, rest, deeper}
-use Rattle.rows.specs.Spans.{Shallow}
 use Rattle.rows.specs.Locate.{Located, nowhere, here, underOf, ledRows}
-use Rattle.rows.specs.Within.{underChange, GoesOn, change-within, led-within}
+use Rattle.rows.specs.Balanced.{passed-rest}
+use Rattle.rows.specs.Within.{underChange, GoesOn, shallow-rest, change-within, led-within}
 use Rattle.message.specs.Means.{wayWords, prevWords}
 use Rattle.tables.specs.Words.{spotWords}
 use Rattle.tables.specs.Finds.{GoodSpot}
@@ -29,7 +28,7 @@ use Rattle.weigh.specs.declared.Sight.{Sight}
 use Rattle.weigh.specs.declared.Weight.{Weight}
 use Rattle.weigh.specs.Goes.{RowPast}
 use Rattle.weigh.specs.Weighs.{Sees, missing, standing, Looks, orNew, wayNumber, Weighs, nothingWeighed, marked, carried, WayWeighed}
-use Rattle.weigh.proofs.Looks.{passOf, meantOf, spot-agrees, spot-tells, false-true, passed-rest}
+use Rattle.weigh.proofs.Looks.{passOf, meantOf, spot-agrees, spot-tells, false-true}
 use Rattle.weigh.proofs.Weights.{carried-places, carried-marks, marked-marks, marked-places, mark-is}
 use Rattle.weigh.proofs.Ways.{into, locateAt, sees-there, carry-into}
 
@@ -108,15 +107,6 @@ module _ (h k m v : List ℕ) (rows : ℕ) (from : Stop) (n : ℕ) (hangs : Bool
 
 -- It goes on.
 
-shallow-rest : (n : ℕ) (rs : List Row) → Shallow n (rest (deeper n) rs)
-unfolding rest
-shallow-rest n [] = tt
-shallow-rest n (r ∷ rs) = go (deeper n r) refl (shallow-rest n rs)
-  where
-    go : (b : Bool) → deeper n r ≡ b → Shallow n (rest (deeper n) rs) → Shallow n (cond b (rest (deeper n) rs) (r ∷ rs))
-    go true e s = s
-    go false e s = ltb-false n (r .depth) e
-
 or-new : (n : ℕ) (p : Spot) (l : Located) → orNew n p l .under ≡ underOf l
 or-new n p nowhere = refl
 or-new n p (here b) = refl
@@ -127,7 +117,7 @@ module _ (d : List ℕ) (n : ℕ) (w : Way) (x : Weight) where
       → Weighs (ledRows d (suc n) w (passed (deeper n) R)) (underChange d (suc n) w (passed (deeper n) R)) x
   within R W =
       let us = passed (deeper n) R in
-      let e : R ≡ us ++ rest (deeper n) R = passed-rest (deeper n) R in
+      let e = sym (passed-rest (deeper n) R) in
       let s = shallow-rest n R in
       let a = ap (ledRows d (suc n) w) e ∙ led-within n (rest (deeper n) R) s d w us in
       let b = ap (underChange d (suc n) w) e ∙ change-within n (rest (deeper n) R) s d w us in

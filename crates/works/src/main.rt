@@ -1,6 +1,6 @@
 // Plays a script of docs/REPLAY.md with `receive` calls only, but for one `save` among them: those ahead of it build a document, and those
-// behind it are received as many times as the number of the `save` says, each time by that document anew. Says how many places, marks and values
-// there are at the end. The program that bench/applies times.
+// behind it are received as many times as the number of the `save` says, each time by that document anew. Says how many places, marks and
+// values there are at the end. The program that bench/applies times.
 use libc::STDOUT_FILENO;
 use meaning::Counters;
 use tables::Counts;

@@ -3,8 +3,8 @@ use native.Mathlib.Omega.{arith}
 use mathlib.Core.Path.{refl, sym, _∙_}
 use lib.Seq.{length-take-le}
 use borrow.Author.Tests.{not-true, not-false}
+use Rattle.readers.specs.Reads.{yes, no}
 use Rattle.operate.specs.Judging.{Small}
-use Rattle.operate.proofs.Rooms.{small-is, small-not}
 use Rattle.operate.proofs.Verdicts.{judge-long, judge-none, judge-cut, judge-eight, judge-nine, judge-large, judge-ten, judge-taken}
 use borrow.Author.Needs.{needs}
 use Rattle.operate.proofs.judge_way.Statement.{statement}
@@ -59,10 +59,10 @@ is-small-requires : tie.Need-is-small-requires
 is-small-requires c κs = search needs
 
 returns-6 : tie.Need-returns-6
-returns-6 c = judge-large _ _ _ _ _ _ _ _ _ _ _ refl (c .before .before .before .before .before .before .before .before .weigh .result) (c .before .before .before .before .before .before .before .before .weigh .ensures) (small-not (c .before .is-small .result) (Small _ _) (not-true _ (c .if6 .taken)) (c .before .is-small .ensures)) _
+returns-6 c = judge-large _ _ _ _ _ _ _ _ _ _ _ refl (c .before .before .before .before .before .before .before .before .weigh .result) (c .before .before .before .before .before .before .before .before .weigh .ensures) (no (Small _ _) _ (c .before .is-small .result) (not-true _ (c .if6 .taken)) (c .before .is-small .ensures)) _
 
 has-room-requires : tie.Need-has-room-requires
-has-room-requires c κs = small-is (c .before .is-small .result) (Small _ _) (not-false _ (c .if6 .left)) (c .before .is-small .ensures)
+has-room-requires c κs = yes (Small _ _) _ (c .before .is-small .result) (not-false _ (c .if6 .left)) (c .before .is-small .ensures)
 
 returns-7 : tie.Need-returns-7
 returns-7 c =
