@@ -2,7 +2,7 @@
 
 use crate::kinds::KINDS;
 use crate::replay::replay;
-use crate::streams::streams;
+use crate::streams::{examples, streams, FIVE};
 
 /// The seed of the kept scripts.
 pub const SEED: u64 = 1;
@@ -16,8 +16,12 @@ pub fn files() -> Vec<(String, Vec<u8>)> {
         files.push((format!("{name}.script"), script));
         files.push((format!("{name}.answers"), answers));
     }
-    for (name, stream) in streams() {
+    let examples = examples().map(|(name, stream)| (name, stream, FIVE.as_bytes().to_vec()));
+    let others = streams().into_iter().map(|(name, stream)| {
         let sheet = sheet::merge(&stream).sheet();
+        (name, stream, sheet)
+    });
+    for (name, stream, sheet) in examples.into_iter().chain(others) {
         files.push((format!("{name}.stream"), stream));
         files.push((format!("{name}.sheet"), sheet));
     }

@@ -10,9 +10,10 @@ use vectors::counts::Counts;
 use vectors::kept::files;
 use vectors::kinds::KINDS;
 use vectors::replay::{perform, replay};
+use vectors::streams::{examples, FIVE};
 
-/// 2.5 MiB
-const MOST_KEPT: usize = 5 * 512 * 1024;
+/// 4 MiB
+const MOST_KEPT: usize = 4 * 1024 * 1024;
 
 fn folder() -> PathBuf {
     PathBuf::from(env!("CARGO_MANIFEST_DIR")).join("../../vectors")
@@ -38,9 +39,16 @@ fn the_generator_gives_the_very_bytes() {
 }
 
 #[test]
-fn they_are_2_5_mib_at_most() {
+fn they_are_4_mib_at_most() {
     let size: usize = files().iter().map(|(_, bytes)| bytes.len()).sum();
     assert!(size <= MOST_KEPT, "{size}");
+}
+
+#[test]
+fn the_examples_give_the_sheet_of_document_01() {
+    for (name, stream) in examples() {
+        assert_eq!(String::from_utf8(sheet::merge(&stream).sheet()).unwrap(), FIVE, "{name}");
+    }
 }
 
 #[test]

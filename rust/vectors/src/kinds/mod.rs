@@ -10,6 +10,7 @@ mod full;
 mod honest;
 mod layout;
 mod reads;
+mod received;
 mod waiting;
 mod wild;
 
@@ -28,4 +29,5 @@ pub const KINDS: &[Kind] = &[
     ("reads", reads::script),
     ("layout", layout::script),
     ("applied", applied::script),
+    ("received", received::script),
 ];
