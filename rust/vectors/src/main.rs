@@ -12,10 +12,9 @@ const USAGE: &str = "\
 vectors script KIND SEED    a script of that kind on standard output
 vectors answers             plays the script on standard input, its answers on standard output
 vectors fresh SEED COUNT    a stream of COUNT messages for merge on standard output
-vectors bench NAME COUNT    a script that bench/applies times: typical, clearing, insert or assign
+vectors bench NAME TURNS    a script that bench/works times, of so many turns
 vectors keep DIR            writes the kept files to DIR
-vectors counts DIR          how often each answer number stands in the answers kept in DIR
-kinds:";
+vectors counts DIR          how often each answer number stands in the answers kept in DIR";
 
 fn main() -> ExitCode {
     let arguments: Vec<String> = env::args().skip(1).collect();
@@ -23,8 +22,9 @@ fn main() -> ExitCode {
     match run(&arguments) {
         Ok(true) => ExitCode::SUCCESS,
         Ok(false) => {
-            let names: Vec<&str> = kinds::KINDS.iter().map(|(name, _)| *name).collect();
-            eprintln!("{USAGE} {}", names.join(" "));
+            let kinds: Vec<&str> = kinds::KINDS.iter().map(|(name, _)| *name).collect();
+            let names: Vec<&str> = benches::WORKS.iter().map(|(name, ..)| *name).collect();
+            eprintln!("{USAGE}\nkinds: {}\nnames: {}", kinds.join(" "), names.join(" "));
             ExitCode::from(2)
         }
         Err(error) => {
@@ -55,8 +55,8 @@ fn run(arguments: &[&str]) -> io::Result<bool> {
             };
             print(&fresh::stream(seed, count))?;
         }
-        ["bench", name, count] => {
-            let Some(script) = count.parse().ok().and_then(|count| benches::script(name, count)) else {
+        ["bench", name, turns] => {
+            let Some(script) = turns.parse().ok().and_then(|turns| benches::script(name, turns)) else {
                 return Ok(false);
             };
             print(&script)?;

@@ -69,13 +69,19 @@ fn each_answer_stands_there() {
         ("receive 8", 80),
         ("receive 10", 10),
         ("save 0", 400),
-        ("save 13", 6),
+        ("save 13", 14),
     ];
     for (answer, least) in least {
         let count = counts.remove(answer).unwrap_or(0);
         assert!(count >= least, "{answer}: {count}");
     }
     assert!(counts.is_empty(), "{counts:?}");
+}
+
+#[test]
+fn the_longest_sheet_stands_there() {
+    let longest = answers("received").iter().map(|(_, written)| written.len()).max();
+    assert_eq!(longest, Some(51_053));
 }
 
 #[test]

@@ -1,11 +1,14 @@
 //! What a terminal gets that makes no edit, loads no sheet and reads nothing: the resets, messages
-//! and saves of other kinds, and the messages that their edits wrote.
+//! and saves of other kinds, and the messages that their edits wrote; and the longest sheet.
 
 use sheet::Document;
 
 use super::{chains, damaged, deep, deleted, full, honest, waiting, wild};
 use crate::call::{Call, LONGEST_BUFFER};
+use crate::fullest::fullest;
+use crate::make::hex;
 use crate::replay::perform;
+use crate::script::Script;
 
 const SOURCES: [fn(u64) -> Vec<u8>; 8] = [
     honest::script,
@@ -23,7 +26,31 @@ pub fn script(seed: u64) -> Vec<u8> {
     for source in SOURCES {
         hear(&mut text, &source(seed));
     }
+    text.extend(longest().into_text());
     text
+}
+
+/// The longest sheet, from messages; and what is refused and taken when there is no room.
+fn longest() -> Script {
+    let mut script = Script::new();
+    fullest(&mut script);
+    for buffer in [51_052, 51_053] {
+        script.call(Call::Save { buffer });
+    }
+    let key = hex(&[7; 16]);
+    for (at, deed, value) in [
+        (&key[..], "assign", "n"),
+        ("61", "assign", "{"),
+        ("61{62", "delete", ""),
+        ("61", "delete", ""),
+        (&key, "assign", "["),
+        (&key, "assign", "n"),
+        ("61", "assign", "t"),
+    ] {
+        script.receive_next(8, at, deed, value);
+        script.call(Call::Save { buffer: 0 });
+    }
+    script
 }
 
 /// Writes what the terminal gets of a script. The script is played, since an edit that is
