@@ -1,4 +1,6 @@
-//! How often each answer number stands in a script's answers.
+//! How often each answer number stands in a script's answers, or is given to a stream's messages.
+
+use sheet::{Answer, Document};
 
 use crate::call::{take_block, take_line};
 
@@ -24,4 +26,20 @@ impl Counts {
             }
         }
     }
+}
+
+/// Of the messages of a stream, and how many of them were applied and dropped in all.
+pub fn of_stream(stream: &[u8]) -> (Counts, usize, usize) {
+    let mut document = Document::new();
+    let mut counts = Counts::default();
+    let (mut all_applied, mut all_dropped) = (0, 0);
+    for message in sheet::messages(stream) {
+        let answer = document.receive(message);
+        counts.calls[usize::from(answer.number())] += 1;
+        if let Answer::Done { applied, dropped, .. } = answer {
+            all_applied += applied;
+            all_dropped += dropped;
+        }
+    }
+    (counts, all_applied, all_dropped)
 }

@@ -5,7 +5,7 @@ use std::path::Path;
 use std::process::ExitCode;
 use std::{env, fs};
 
-use vectors::counts::Counts;
+use vectors::counts::{self, Counts};
 use vectors::{benches, fresh, kept, kinds, replay};
 
 const USAGE: &str = "\
@@ -14,7 +14,8 @@ vectors answers             plays the script on standard input, its answers on s
 vectors fresh SEED COUNT    a stream of COUNT messages for merge on standard output
 vectors bench NAME TURNS    a script that bench/works times, of so many turns
 vectors keep DIR            writes the kept files to DIR
-vectors counts DIR          how often each answer number stands in the answers kept in DIR";
+vectors counts DIR          how often each answer number stands in the answers kept in DIR
+vectors stream              how often each is given to the messages of the stream on standard input";
 
 fn main() -> ExitCode {
     let arguments: Vec<String> = env::args().skip(1).collect();
@@ -44,11 +45,7 @@ fn run(arguments: &[&str]) -> io::Result<bool> {
             };
             print(&write(seed))?;
         }
-        ["answers"] => {
-            let mut script = Vec::new();
-            io::stdin().lock().read_to_end(&mut script)?;
-            print(&replay::replay(&script))?;
-        }
+        ["answers"] => print(&replay::replay(&input()?))?,
         ["fresh", seed, count] => {
             let (Ok(seed), Ok(count)) = (seed.parse(), count.parse()) else {
                 return Ok(false);
@@ -66,10 +63,17 @@ fn run(arguments: &[&str]) -> io::Result<bool> {
                 fs::write(Path::new(folder).join(name), bytes)?;
             }
         }
-        ["counts", folder] => counts(folder)?,
+        ["counts", folder] => kept_counts(folder)?,
+        ["stream"] => stream(&input()?),
         _ => return Ok(false),
     }
     Ok(true)
+}
+
+fn input() -> io::Result<Vec<u8>> {
+    let mut bytes = Vec::new();
+    io::stdin().lock().read_to_end(&mut bytes)?;
+    Ok(bytes)
 }
 
 fn print(bytes: &[u8]) -> io::Result<()> {
@@ -77,9 +81,8 @@ fn print(bytes: &[u8]) -> io::Result<()> {
 }
 
 /// A row for each kind and one for all, a column for each answer number.
-fn counts(folder: &str) -> io::Result<()> {
-    let numbers: Vec<usize> = (0..=14).collect();
-    println!("{}", row("answer", &numbers));
+fn kept_counts(folder: &str) -> io::Result<()> {
+    heading();
     let mut all = Counts::default();
     for (name, _) in kinds::KINDS {
         let answers = fs::read(Path::new(folder).join(format!("{name}.answers")))?;
@@ -91,6 +94,19 @@ fn counts(folder: &str) -> io::Result<()> {
     println!("{}", row("all calls", &all.calls));
     println!("{}", row("verdicts", &all.verdicts));
     Ok(())
+}
+
+/// The same of a stream, and how many of its messages were applied and dropped.
+fn stream(stream: &[u8]) {
+    let (counts, applied, dropped) = counts::of_stream(stream);
+    heading();
+    println!("{}", row("stream", &counts.calls));
+    println!("applied {applied}, dropped {dropped}");
+}
+
+fn heading() {
+    let numbers: Vec<usize> = (0..=14).collect();
+    println!("{}", row("answer", &numbers));
 }
 
 fn row(name: &str, numbers: &[usize]) -> String {

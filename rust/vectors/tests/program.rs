@@ -44,6 +44,16 @@ fn fresh() {
 }
 
 #[test]
+fn stream() {
+    let counts = run(&["stream"], &kept("merge-example-other.stream"));
+    assert!(counts.status.success());
+    let text = String::from_utf8(counts.stdout).unwrap();
+    let lines: Vec<Vec<&str>> = text.lines().map(|line| line.split_whitespace().collect()).collect();
+    assert_eq!(lines[1][..3], ["stream", "5", "0"], "{text}");
+    assert_eq!(lines[2], ["applied", "5,", "dropped", "0"], "{text}");
+}
+
+#[test]
 fn keep_and_counts() {
     let new = env::temp_dir().join(format!("vectors-{}", process::id()));
     fs::create_dir(&new).unwrap();
@@ -73,6 +83,8 @@ fn what_makes_no_sense_is_refused() {
         &["script", "wild", "x"],
         &["fresh", "1"],
         &["fresh", "1", "x"],
+        &["bench", "small", "x"],
+        &["bench", "nothing", "1"],
     ] {
         let output = run(arguments, b"");
         assert_eq!(output.status.code(), Some(2), "{arguments:?}");

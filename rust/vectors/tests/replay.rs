@@ -1,5 +1,6 @@
 //! The formats of docs/REPLAY.md, by an example written out by hand, and fresh streams.
 
+use vectors::counts::of_stream;
 use vectors::fresh;
 use vectors::replay::replay;
 
@@ -77,4 +78,18 @@ fn a_long_fresh_stream_is_applied_for_the_most_part() {
     let document = sheet::merge(&stream);
     let seen: u64 = document.seen().0.iter().map(|&counter| u64::from(counter)).sum();
     assert!(seen > 5000, "{:?}", document.seen());
+}
+
+#[test]
+fn a_crowd_gets_each_answer_that_can_come() {
+    for seed in [0, 3, 6] {
+        let (counts, applied, dropped) = of_stream(&fresh::stream(seed, 2000));
+        for number in [0, 1, 2, 3, 4, 5, 6, 7, 8, 10] {
+            assert!(counts.calls[number] > 5, "{seed}: {number} in {:?}", counts.calls);
+        }
+        assert!(
+            applied > 600 && applied > counts.calls[0] + 50 && dropped > 50,
+            "{seed}: {applied} {dropped}"
+        );
+    }
 }
