@@ -5,7 +5,7 @@ use std::collections::VecDeque;
 
 use sheet::{Answer, Document, Id, MOST_WAITING};
 
-use crate::make::{damaged, edit, honest_edit, id, next, wild, WILD};
+use crate::make::{damaged, edit, honest_edit, next, next_id, wild, WILD};
 use crate::random::Random;
 
 /// Honest terminals are numbered from 1 to this; the wild ones follow.
@@ -172,7 +172,7 @@ fn honest(random: &mut Random, terminals: &mut [Terminal]) -> (Id, Vec<u8>) {
         terminal.document.receive(&message);
     }
     let device = editing as u8 + 1;
-    let id = id(terminal.document.seen().largest() + 1, device);
+    let id = next_id(&terminal.document, device);
     let message = honest_message(random, &mut terminal.document, device);
     for (index, other) in terminals.iter_mut().enumerate() {
         if index != editing {

@@ -1,7 +1,7 @@
 //! The fullest document, by messages: 256 places, 1,024 marks and 256 values, whose sheet is the
 //! longest that there is.
 
-use crate::make::{deps, hex, id, lines, message};
+use crate::make::{heard, hex, id, lines, message};
 use crate::script::Script;
 
 /// 64 ways of four keys. Four terminals that haven't heard of each other assign at each; of eight
@@ -12,9 +12,7 @@ pub fn fullest(script: &mut Script) {
         let keys = [way, 1, 2, 3].map(|key| hex(&[key; 16]));
         for terminal in 1..=4 {
             let terminal = terminal + way % 2 * 4;
-            let own = usize::from(terminal) - 1;
-            let mut deps = deps(&[]);
-            deps.0[own] = script.document().seen().0[own];
+            let deps = heard(script.document(), usize::from(terminal), &[]);
             let counter = 4_294_967_000 + u32::from(way);
             script.receive(&message(id(counter, terminal), &deps, &lines(&keys.join("{"), "assign", &value)));
         }

@@ -1,6 +1,7 @@
 //! The files that are kept in the repository's `vectors/` folder.
 
-use crate::kinds::KINDS;
+use crate::kinds::{script, KINDS};
+use crate::random::Random;
 use crate::replay::replay;
 use crate::streams::{examples, streams, FIVE};
 
@@ -10,8 +11,8 @@ pub const SEED: u64 = 1;
 /// Every kept file's name and bytes.
 pub fn files() -> Vec<(String, Vec<u8>)> {
     let mut files = Vec::new();
-    for (name, write) in KINDS {
-        let script = write(SEED);
+    for (name, play) in KINDS {
+        let script = script(*play, &Random::new(SEED));
         let answers = replay(&script);
         files.push((format!("{name}.script"), script));
         files.push((format!("{name}.answers"), answers));

@@ -6,6 +6,7 @@ use std::process::ExitCode;
 use std::{env, fs};
 
 use vectors::counts::{self, Counts};
+use vectors::random::Random;
 use vectors::{benches, fresh, kept, kinds, replay};
 
 const USAGE: &str = "\
@@ -40,10 +41,10 @@ fn run(arguments: &[&str]) -> io::Result<bool> {
     match arguments {
         ["script", kind, seed] => {
             let kind = kinds::KINDS.iter().find(|(name, _)| name == kind);
-            let (Some((_, write)), Ok(seed)) = (kind, seed.parse()) else {
+            let (Some((_, play)), Ok(seed)) = (kind, seed.parse()) else {
                 return Ok(false);
             };
-            print(&write(seed))?;
+            print(&kinds::script(*play, &Random::new(seed)))?;
         }
         ["answers"] => print(&replay::replay(&input()?))?,
         ["fresh", seed, count] => {

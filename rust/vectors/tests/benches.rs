@@ -1,21 +1,13 @@
 //! The scripts that bench/works times play what they say, and so does the program that plays them.
 
-use std::io::Write;
-use std::process::{Command, Stdio};
-
+mod common;
 use sheet::{Document, Size};
 use vectors::benches::{script, WORKS};
 use vectors::call::Call;
 
 /// What `workbench` prints.
 fn printed(script: &[u8]) -> String {
-    let mut program = Command::new(env!("CARGO_BIN_EXE_workbench"))
-        .stdin(Stdio::piped())
-        .stdout(Stdio::piped())
-        .spawn()
-        .expect("workbench starts");
-    program.stdin.take().unwrap().write_all(script).unwrap();
-    let output = program.wait_with_output().unwrap();
+    let output = common::run(env!("CARGO_BIN_EXE_workbench"), &[], script);
     assert!(output.status.success());
     String::from_utf8(output.stdout).unwrap()
 }

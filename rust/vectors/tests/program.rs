@@ -1,29 +1,13 @@
 //! The program `vectors` by its arguments.
 
-use std::io::Write;
-use std::path::PathBuf;
-use std::process::{Command, Output, Stdio};
+mod common;
+use std::process::Output;
 use std::{env, fs, process};
 
-fn folder() -> String {
-    concat!(env!("CARGO_MANIFEST_DIR"), "/../../vectors").to_string()
-}
-
-fn kept(name: &str) -> Vec<u8> {
-    fs::read(PathBuf::from(folder()).join(name)).unwrap()
-}
+use common::{folder, kept};
 
 fn run(arguments: &[&str], input: &[u8]) -> Output {
-    let mut program = Command::new(env!("CARGO_BIN_EXE_vectors"))
-        .args(arguments)
-        .stdin(Stdio::piped())
-        .stdout(Stdio::piped())
-        .stderr(Stdio::piped())
-        .spawn()
-        .expect("vectors starts");
-    // A program that doesn't read its input may be gone already.
-    let _ = program.stdin.take().unwrap().write_all(input);
-    program.wait_with_output().unwrap()
+    common::run(env!("CARGO_BIN_EXE_vectors"), arguments, input)
 }
 
 #[test]
@@ -62,7 +46,7 @@ fn keep_and_counts() {
     let counts = run(&["counts", new.to_str().unwrap()], b"");
     fs::remove_dir_all(&new).unwrap();
     assert!(counts.status.success());
-    assert!(counts.stdout == run(&["counts", &folder()], b"").stdout);
+    assert!(counts.stdout == run(&["counts", folder().to_str().unwrap()], b"").stdout);
     let text = String::from_utf8(counts.stdout).unwrap();
     let all = text.lines().find_map(|line| line.strip_prefix("all calls")).unwrap();
     let zeros: Vec<usize> = all

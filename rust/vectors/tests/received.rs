@@ -1,32 +1,12 @@
 //! The kind `received`: resets, messages and saves only, with every answer that can come to them, and
 //! the documents of the kinds that it is made of.
 
+mod common;
 use std::collections::BTreeMap;
-use std::fs;
-use std::path::PathBuf;
 
-use vectors::call::{take_block, take_line, Call};
-
-fn kept(name: &str) -> Vec<u8> {
-    let folder = PathBuf::from(env!("CARGO_MANIFEST_DIR")).join("../../vectors");
-    fs::read(folder.join(name)).unwrap_or_else(|error| panic!("{name}: {error}"))
-}
-
-/// The answers of a kind: the words of each one's line, and what was written.
-fn answers(kind: &str) -> Vec<(Vec<String>, Vec<u8>)> {
-    let answers = kept(&format!("{kind}.answers"));
-    let mut rest = &answers[..];
-    let mut all = Vec::new();
-    while !rest.is_empty() {
-        let words: Vec<String> = take_line(&mut rest).split(' ').map(str::to_string).collect();
-        let written = match words.as_slice() {
-            [_, number, _, _, written, _] if number == "0" => take_block(&mut rest, written.parse().unwrap()),
-            _ => &[],
-        };
-        all.push((words, written.to_vec()));
-    }
-    all
-}
+use common::kept;
+use vectors::call::Call;
+use vectors::replay::take_answer;
 
 #[test]
 fn its_calls_are_resets_messages_and_saves() {
@@ -46,14 +26,19 @@ fn its_calls_are_resets_messages_and_saves() {
 
 #[test]
 fn each_answer_stands_there() {
+    let answers = kept("received.answers");
+    let mut rest = &answers[..];
     let mut counts: BTreeMap<String, usize> = BTreeMap::new();
-    for (words, _) in answers("received") {
+    let mut longest = 0;
+    while let Some((words, written)) = take_answer(&mut rest) {
         *counts.entry(words[..2].join(" ")).or_default() += 1;
-        if let ["receive", "0", applied, dropped] = words.iter().map(String::as_str).collect::<Vec<_>>()[..] {
+        if let ["receive", "0", applied, dropped] = words[..] {
             *counts.entry("settled".to_string()).or_default() += usize::from(applied != "1");
             *counts.entry("dropped".to_string()).or_default() += usize::from(dropped != "0");
         }
+        longest = longest.max(written.len());
     }
+    assert_eq!(longest, 51_053, "the longest sheet");
     let least = [
         ("reset 0", 300),
         ("receive 0", 4000),
@@ -78,24 +63,22 @@ fn each_answer_stands_there() {
     assert!(counts.is_empty(), "{counts:?}");
 }
 
-#[test]
-fn the_longest_sheet_stands_there() {
-    let longest = answers("received").iter().map(|(_, written)| written.len()).max();
-    assert_eq!(longest, Some(51_053));
+/// The sheets that are saved.
+fn sheets(answers: &[u8]) -> Vec<&[u8]> {
+    let mut rest = answers;
+    let answers = std::iter::from_fn(|| take_answer(&mut rest));
+    answers.filter(|(words, _)| words[0] == "save").map(|(_, sheet)| sheet).collect()
 }
 
 #[test]
 fn the_documents_go_the_same_way() {
-    let saves = |kind| {
-        let saves = answers(kind).into_iter().filter(|(words, _)| words[0] == "save");
-        saves.map(|(_, sheet)| sheet).collect::<Vec<_>>()
-    };
-    let received = saves("received");
+    let received = kept("received.answers");
     // Nothing is loaded in these kinds, so each of their sheets comes again, in order.
     for kind in ["honest", "deleted", "chains"] {
-        let mut again = received.iter();
-        for sheet in saves(kind) {
-            assert!(again.any(|other| *other == sheet), "{kind}");
+        let source = kept(&format!("{kind}.answers"));
+        let mut again = sheets(&received).into_iter();
+        for sheet in sheets(&source) {
+            assert!(again.any(|other| other == sheet), "{kind}");
         }
     }
 }

@@ -3,37 +3,55 @@
 
 use sheet::Document;
 
-use super::{chains, damaged, deep, deleted, full, honest, waiting, wild};
+use super::{chains, damaged, deep, deleted, full, honest, waiting, wild, Play};
 use crate::call::{Call, LONGEST_BUFFER};
 use crate::fullest::fullest;
 use crate::make::hex;
+use crate::random::Random;
 use crate::replay::perform;
 use crate::script::Script;
 
-const SOURCES: [fn(u64) -> Vec<u8>; 8] = [
-    honest::script,
-    wild::script,
-    damaged::script,
-    deleted::script,
-    deep::script,
-    full::script,
-    waiting::script,
-    chains::script,
+const SOURCES: [Play; 8] = [
+    honest::play,
+    wild::play,
+    damaged::play,
+    deleted::play,
+    deep::play,
+    full::play,
+    waiting::play,
+    chains::play,
 ];
 
-pub fn script(seed: u64) -> Vec<u8> {
-    let mut text = Vec::new();
+/// The sources are played too, since an edit that is answered 0 comes as the message that it wrote.
+/// Each document is saved at its end.
+pub fn play(random: &mut Random, script: &mut Script) {
+    let mut saved = false;
     for source in SOURCES {
-        hear(&mut text, &source(seed));
+        let source = super::script(source, random);
+        let mut document = Document::new();
+        let mut rest = &source[..];
+        while let Some(call) = Call::take(&mut rest) {
+            let reply = perform(&mut document, &call, &mut Vec::new());
+            let heard = match call {
+                Call::Reset | Call::Receive { .. } | Call::Save { .. } => call,
+                Call::Edit { .. } if reply.answer.number() == 0 => Call::Receive { message: &reply.written },
+                _ => continue,
+            };
+            if heard == Call::Reset && !saved {
+                script.call(Call::Save { buffer: LONGEST_BUFFER });
+            }
+            script.call(heard);
+            saved = matches!(heard, Call::Save { .. });
+        }
     }
-    text.extend(longest().into_text());
-    text
+    assert!(saved, "the last source ends with a save");
+    longest(script);
 }
 
 /// The longest sheet, from messages; and what is refused and taken when there is no room.
-fn longest() -> Script {
-    let mut script = Script::new();
-    fullest(&mut script);
+fn longest(script: &mut Script) {
+    script.reset();
+    fullest(script);
     for buffer in [51_052, 51_053] {
         script.call(Call::Save { buffer });
     }
@@ -49,31 +67,5 @@ fn longest() -> Script {
     ] {
         script.receive_next(8, at, deed, value);
         script.call(Call::Save { buffer: 0 });
-    }
-    script
-}
-
-/// Writes what the terminal gets of a script. The script is played, since an edit that is
-/// answered 0 comes as the message that it wrote. Each document is saved at its end.
-fn hear(text: &mut Vec<u8>, source: &[u8]) {
-    const LAST: Call = Call::Save { buffer: LONGEST_BUFFER };
-    let mut document = Document::new();
-    let mut saved = true;
-    let mut rest = source;
-    while let Some(call) = Call::take(&mut rest) {
-        let reply = perform(&mut document, &call, &mut Vec::new());
-        let heard = match call {
-            Call::Reset | Call::Receive { .. } | Call::Save { .. } => call,
-            Call::Edit { .. } if reply.answer.number() == 0 => Call::Receive { message: &reply.written },
-            _ => continue,
-        };
-        if heard == Call::Reset && !saved {
-            LAST.write(text);
-        }
-        heard.write(text);
-        saved = matches!(heard, Call::Save { .. });
-    }
-    if !saved {
-        LAST.write(text);
     }
 }
