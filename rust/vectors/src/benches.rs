@@ -159,19 +159,22 @@ fn assign_deep(script: &mut Script) {
     }
 }
 
-/// A cleared list of 239 elements, and eight places with 944 marks: of the documents with so many
+/// A cleared list of 183 elements, and eight places with 960 marks: of the documents with so many
 /// places and marks one that the second implementation copies fast.
 fn crowded(script: &mut Script) {
-    for _ in 0..239 {
+    for _ in 0..183 {
         script.receive_next(1, "fe[^", "insert", "t");
     }
     script.receive_next(1, "fe", "delete", "");
-    for _ in 0..118 {
+    for _ in 0..120 {
         script.receive_next(1, &["ff"; 8].join("{"), "assign", "i7");
     }
 }
 
-/// An assign at a way of eight keys that are all unknown, ahead of all others.
+/// Eight assigns at ways of eight keys that are all unknown, each ahead of all others, of which the
+/// last fills the document.
 fn make_eight(script: &mut Script) {
-    script.receive_next(2, &["00"; 8].join("{"), "assign", "t");
+    for key in (0..8).rev() {
+        script.receive_next(2, &vec![hex(&[key]); 8].join("{"), "assign", "t");
+    }
 }

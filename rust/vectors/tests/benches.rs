@@ -25,7 +25,7 @@ fn they_end_as_is_meant() {
         ("clearing", "251 1 0 0 0\n"),
         ("insert", "256 1024 247 0 0\n"),
         ("assign", "256 1024 247 0 0\n"),
-        ("made", "256 952 2 0 0\n"),
+        ("made", "256 1024 9 0 0\n"),
         ("savesmall", "4 6 2 0 168\n"),
         ("savetypical", "100 240 80 0 4722\n"),
         ("savefull", "256 1024 256 0 51053\n"),
@@ -74,7 +74,7 @@ fn they_begin_as_is_meant_and_each_timed_message_is_applied() {
         ("clearing", size(251, 1000, 250), 0, 1),
         ("insert", size(226, 784, 217), 0, 30),
         ("assign", size(226, 784, 217), 0, 30),
-        ("made", size(248, 944, 1), 0, 1),
+        ("made", size(192, 960, 1), 0, 8),
         ("savetypical", size(100, 240, 80), 0, 0),
     ] {
         assert_eq!(played(name), (built, waiting, vec![0; count]), "{name}");
