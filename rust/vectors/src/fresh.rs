@@ -5,7 +5,7 @@ use std::collections::VecDeque;
 
 use sheet::{Answer, Document, Id, MOST_WAITING};
 
-use crate::make::{damaged, edit, honest_edit, next, next_id, wild, WILD};
+use crate::make::{damaged, edit, honest_edit, next, next_id, wild, DEEP, FLAT, WILD};
 use crate::random::Random;
 
 /// Honest terminals are numbered from 1 to this; the wild ones follow.
@@ -69,6 +69,7 @@ pub fn stream(seed: u64, count: usize) -> Vec<u8> {
 /// Seven terminals that send what they like, most of it near what `merge` has seen, ready or not;
 /// and one whose messages wait for one of its own, which comes once there is no room to wait.
 fn crowd(random: &mut Random, count: usize) -> Vec<u8> {
+    let taste = *random.pick(&[FLAT, WILD, DEEP]);
     let mut stream = Stream::new();
     let mut chain: Option<Chain> = None;
     for _ in 0..count {
@@ -76,7 +77,7 @@ fn crowd(random: &mut Random, count: usize) -> Vec<u8> {
         let message = match random.below(100) {
             0..=7 if !stream.sent.is_empty() => stream.again(random),
             8..=11 => {
-                let message = wild(random, merged, WILD, 1..=7);
+                let message = wild(random, merged, taste, 1..=7);
                 damaged(random, &message)
             }
             12..=35 => {
@@ -90,10 +91,10 @@ fn crowd(random: &mut Random, count: usize) -> Vec<u8> {
                 }
             }
             36..=59 => {
-                let lines = edit(random, merged, WILD);
+                let lines = edit(random, merged, taste);
                 next(merged, random.from_to(1, 7) as u8, &lines)
             }
-            _ => wild(random, merged, WILD, 1..=7),
+            _ => wild(random, merged, taste, 1..=7),
         };
         stream.push(message);
     }

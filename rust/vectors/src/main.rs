@@ -5,6 +5,7 @@ use std::path::Path;
 use std::process::ExitCode;
 use std::{env, fs};
 
+use sheet::Size;
 use vectors::counts::{self, Counts};
 use vectors::random::Random;
 use vectors::{benches, fresh, kept, kinds, replay};
@@ -97,12 +98,14 @@ fn kept_counts(folder: &str) -> io::Result<()> {
     Ok(())
 }
 
-/// The same of a stream, and how many of its messages were applied and dropped.
+/// The same of a stream, how many of its messages were applied and dropped, and the size at the end.
 fn stream(stream: &[u8]) {
     let (counts, applied, dropped) = counts::of_stream(stream);
     heading();
     println!("{}", row("stream", &counts.calls));
     println!("applied {applied}, dropped {dropped}");
+    let Size { places, marks, values } = sheet::merge(stream).size();
+    println!("places {places}, marks {marks}, values {values}");
 }
 
 fn heading() {

@@ -98,6 +98,8 @@ pub struct Taste {
 pub const HONEST: Taste = Taste { deeper: 55, astray: 0 };
 /// Now and then an element that isn't there.
 pub const WILD: Taste = Taste { deeper: 55, astray: 8 };
+/// Short ways.
+pub const FLAT: Taste = Taste { deeper: 25, astray: 4 };
 /// Long ways.
 pub const DEEP: Taste = Taste { deeper: 88, astray: 3 };
 

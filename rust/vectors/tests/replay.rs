@@ -81,15 +81,19 @@ fn a_long_fresh_stream_is_applied_for_the_most_part() {
 }
 
 #[test]
-fn a_crowd_gets_each_answer_that_can_come() {
-    for seed in [0, 3, 6] {
-        let (counts, applied, dropped) = of_stream(&fresh::stream(seed, 2000));
-        for number in [0, 1, 2, 3, 4, 5, 6, 7, 8, 10] {
-            assert!(counts.calls[number] > 5, "{seed}: {number} in {:?}", counts.calls);
+fn crowds_get_each_answer_that_can_come() {
+    let (mut answers, mut settled, mut all_dropped) = ([0; 15], 0, 0);
+    for seed in [0, 3, 6, 9] {
+        let (counts, applied, dropped) = of_stream(&fresh::stream(seed, 1000));
+        for (number, count) in counts.calls.iter().enumerate() {
+            answers[number] += count;
         }
-        assert!(
-            applied > 600 && applied > counts.calls[0] + 50 && dropped > 50,
-            "{seed}: {applied} {dropped}"
-        );
+        assert!(applied > 250, "{seed}: {applied}");
+        settled += applied - counts.calls[0];
+        all_dropped += dropped;
     }
+    for number in [0, 1, 2, 3, 4, 5, 6, 7, 8, 10] {
+        assert!(answers[number] > 50, "{number} in {answers:?}");
+    }
+    assert!(settled > 200 && all_dropped > 200, "{settled} {all_dropped}");
 }
