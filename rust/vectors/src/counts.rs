@@ -1,6 +1,8 @@
-//! How often each answer number stands in a script's answers.
+//! How often each answer number stands in a script's answers, or is given to a stream's messages.
 
-use crate::call::{take_block, take_line};
+use sheet::{Answer, Document};
+
+use crate::replay::take_answer;
 
 /// The number of answers 0 to 14: of calls, and of verdicts on the layout.
 #[derive(Clone, Copy, Default, PartialEq, Eq, Debug)]
@@ -13,15 +15,26 @@ impl Counts {
     /// Adds the answers of one script.
     pub fn add(&mut self, answers: &[u8]) {
         let mut rest = answers;
-        while !rest.is_empty() {
-            let words: Vec<&str> = take_line(&mut rest).split(' ').collect();
+        while let Some((words, _)) = take_answer(&mut rest) {
             let number: usize = words[1].parse().expect("an answer's number");
             let of = if words[0].starts_with("is") { &mut self.verdicts } else { &mut self.calls };
             of[number] += 1;
-            // `name 0 applied dropped written rest` is followed by what was written.
-            if let ["0", _, _, written, _] = words[1..] {
-                take_block(&mut rest, written.parse().expect("a length"));
-            }
         }
     }
+}
+
+/// Of the messages of a stream, and how many of them were applied and dropped in all.
+pub fn of_stream(stream: &[u8]) -> (Counts, usize, usize) {
+    let mut document = Document::new();
+    let mut counts = Counts::default();
+    let (mut all_applied, mut all_dropped) = (0, 0);
+    for message in sheet::messages(stream) {
+        let answer = document.receive(message);
+        counts.calls[usize::from(answer.number())] += 1;
+        if let Answer::Done { applied, dropped, .. } = answer {
+            all_applied += applied;
+            all_dropped += dropped;
+        }
+    }
+    (counts, all_applied, all_dropped)
 }

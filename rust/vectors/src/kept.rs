@@ -1,8 +1,9 @@
 //! The files that are kept in the repository's `vectors/` folder.
 
-use crate::kinds::KINDS;
+use crate::kinds::{script, KINDS};
+use crate::random::Random;
 use crate::replay::replay;
-use crate::streams::streams;
+use crate::streams::{examples, streams, FIVE};
 
 /// The seed of the kept scripts.
 pub const SEED: u64 = 1;
@@ -10,14 +11,18 @@ pub const SEED: u64 = 1;
 /// Every kept file's name and bytes.
 pub fn files() -> Vec<(String, Vec<u8>)> {
     let mut files = Vec::new();
-    for (name, write) in KINDS {
-        let script = write(SEED);
+    for (name, play) in KINDS {
+        let script = script(*play, &Random::new(SEED));
         let answers = replay(&script);
         files.push((format!("{name}.script"), script));
         files.push((format!("{name}.answers"), answers));
     }
-    for (name, stream) in streams() {
+    let examples = examples().map(|(name, stream)| (name, stream, FIVE.as_bytes().to_vec()));
+    let others = streams().into_iter().map(|(name, stream)| {
         let sheet = sheet::merge(&stream).sheet();
+        (name, stream, sheet)
+    });
+    for (name, stream, sheet) in examples.into_iter().chain(others) {
         files.push((format!("{name}.stream"), stream));
         files.push((format!("{name}.sheet"), sheet));
     }

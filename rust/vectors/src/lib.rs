@@ -5,6 +5,7 @@ pub mod benches;
 pub mod call;
 pub mod counts;
 pub mod fresh;
+pub mod fullest;
 pub mod kept;
 pub mod kinds;
 pub mod make;

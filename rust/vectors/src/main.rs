@@ -5,17 +5,19 @@ use std::path::Path;
 use std::process::ExitCode;
 use std::{env, fs};
 
-use vectors::counts::Counts;
+use sheet::Size;
+use vectors::counts::{self, Counts};
+use vectors::random::Random;
 use vectors::{benches, fresh, kept, kinds, replay};
 
 const USAGE: &str = "\
 vectors script KIND SEED    a script of that kind on standard output
 vectors answers             plays the script on standard input, its answers on standard output
 vectors fresh SEED COUNT    a stream of COUNT messages for merge on standard output
-vectors bench NAME COUNT    a script that bench/applies times: typical, clearing, insert or assign
+vectors bench NAME TURNS    a script that bench/works times, of so many turns
 vectors keep DIR            writes the kept files to DIR
 vectors counts DIR          how often each answer number stands in the answers kept in DIR
-kinds:";
+vectors stream              how often each is given to the messages of the stream on standard input";
 
 fn main() -> ExitCode {
     let arguments: Vec<String> = env::args().skip(1).collect();
@@ -23,8 +25,9 @@ fn main() -> ExitCode {
     match run(&arguments) {
         Ok(true) => ExitCode::SUCCESS,
         Ok(false) => {
-            let names: Vec<&str> = kinds::KINDS.iter().map(|(name, _)| *name).collect();
-            eprintln!("{USAGE} {}", names.join(" "));
+            let kinds: Vec<&str> = kinds::KINDS.iter().map(|(name, _)| *name).collect();
+            let names: Vec<&str> = benches::WORKS.iter().map(|(name, ..)| *name).collect();
+            eprintln!("{USAGE}\nkinds: {}\nnames: {}", kinds.join(" "), names.join(" "));
             ExitCode::from(2)
         }
         Err(error) => {
@@ -39,24 +42,20 @@ fn run(arguments: &[&str]) -> io::Result<bool> {
     match arguments {
         ["script", kind, seed] => {
             let kind = kinds::KINDS.iter().find(|(name, _)| name == kind);
-            let (Some((_, write)), Ok(seed)) = (kind, seed.parse()) else {
+            let (Some((_, play)), Ok(seed)) = (kind, seed.parse()) else {
                 return Ok(false);
             };
-            print(&write(seed))?;
+            print(&kinds::script(*play, &Random::new(seed)))?;
         }
-        ["answers"] => {
-            let mut script = Vec::new();
-            io::stdin().lock().read_to_end(&mut script)?;
-            print(&replay::replay(&script))?;
-        }
+        ["answers"] => print(&replay::replay(&input()?))?,
         ["fresh", seed, count] => {
             let (Ok(seed), Ok(count)) = (seed.parse(), count.parse()) else {
                 return Ok(false);
             };
             print(&fresh::stream(seed, count))?;
         }
-        ["bench", name, count] => {
-            let Some(script) = count.parse().ok().and_then(|count| benches::script(name, count)) else {
+        ["bench", name, turns] => {
+            let Some(script) = turns.parse().ok().and_then(|turns| benches::script(name, turns)) else {
                 return Ok(false);
             };
             print(&script)?;
@@ -66,10 +65,17 @@ fn run(arguments: &[&str]) -> io::Result<bool> {
                 fs::write(Path::new(folder).join(name), bytes)?;
             }
         }
-        ["counts", folder] => counts(folder)?,
+        ["counts", folder] => kept_counts(folder)?,
+        ["stream"] => stream(&input()?),
         _ => return Ok(false),
     }
     Ok(true)
+}
+
+fn input() -> io::Result<Vec<u8>> {
+    let mut bytes = Vec::new();
+    io::stdin().lock().read_to_end(&mut bytes)?;
+    Ok(bytes)
 }
 
 fn print(bytes: &[u8]) -> io::Result<()> {
@@ -77,9 +83,8 @@ fn print(bytes: &[u8]) -> io::Result<()> {
 }
 
 /// A row for each kind and one for all, a column for each answer number.
-fn counts(folder: &str) -> io::Result<()> {
-    let numbers: Vec<usize> = (0..=14).collect();
-    println!("{}", row("answer", &numbers));
+fn kept_counts(folder: &str) -> io::Result<()> {
+    heading();
     let mut all = Counts::default();
     for (name, _) in kinds::KINDS {
         let answers = fs::read(Path::new(folder).join(format!("{name}.answers")))?;
@@ -91,6 +96,21 @@ fn counts(folder: &str) -> io::Result<()> {
     println!("{}", row("all calls", &all.calls));
     println!("{}", row("verdicts", &all.verdicts));
     Ok(())
+}
+
+/// The same of a stream, how many of its messages were applied and dropped, and the size at the end.
+fn stream(stream: &[u8]) {
+    let (counts, applied, dropped) = counts::of_stream(stream);
+    heading();
+    println!("{}", row("stream", &counts.calls));
+    println!("applied {applied}, dropped {dropped}");
+    let Size { places, marks, values } = sheet::merge(stream).size();
+    println!("places {places}, marks {marks}, values {values}");
+}
+
+fn heading() {
+    let numbers: Vec<usize> = (0..=14).collect();
+    println!("{}", row("answer", &numbers));
 }
 
 fn row(name: &str, numbers: &[usize]) -> String {

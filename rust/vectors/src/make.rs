@@ -21,8 +21,12 @@ pub fn message(id: Id, deps: &Counters, lines: &[u8]) -> Vec<u8> {
 
 /// The message of an edit that a terminal would make now.
 pub fn next(document: &Document, terminal: u8, lines: &[u8]) -> Vec<u8> {
-    let seen = document.seen();
-    message(id(seen.largest() + 1, terminal), seen, lines)
+    message(next_id(document, terminal), document.seen(), lines)
+}
+
+/// Its id.
+pub fn next_id(document: &Document, terminal: u8) -> Id {
+    id(document.seen().largest() + 1, terminal)
 }
 
 pub fn id_text(id: Id) -> String {
@@ -38,6 +42,13 @@ pub fn deps(first: &[u32]) -> Counters {
     let mut counters = Counters::default();
     counters.0[..first.len()].copy_from_slice(first);
     counters
+}
+
+/// The deps of a terminal that has heard of these first counters and of its own messages.
+pub fn heard(document: &Document, terminal: usize, first: &[u32]) -> Counters {
+    let mut deps = deps(first);
+    deps.0[terminal - 1] = document.seen().0[terminal - 1];
+    deps
 }
 
 pub fn hex(bytes: &[u8]) -> String {
@@ -87,6 +98,8 @@ pub struct Taste {
 pub const HONEST: Taste = Taste { deeper: 55, astray: 0 };
 /// Now and then an element that isn't there.
 pub const WILD: Taste = Taste { deeper: 55, astray: 8 };
+/// Short ways.
+pub const FLAT: Taste = Taste { deeper: 25, astray: 4 };
 /// Long ways.
 pub const DEEP: Taste = Taste { deeper: 88, astray: 3 };
 

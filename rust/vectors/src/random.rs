@@ -1,5 +1,6 @@
 //! A small random generator (splitmix64), the same on every machine.
 
+#[derive(Clone)]
 pub struct Random {
     state: u64,
 }

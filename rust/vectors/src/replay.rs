@@ -2,7 +2,7 @@
 
 use sheet::{read_edit, read_element_way, read_keys_way, read_message, read_values_way, Answer, Document};
 
-use crate::call::{block, line, Call};
+use crate::call::{block, line, take_block, take_line, Call};
 
 /// What a buffer is full of ahead of a call; no call writes this byte.
 pub const FILL: u8 = 0xa5;
@@ -49,6 +49,20 @@ pub fn perform(document: &mut Document, call: &Call, out: &mut Vec<u8>) -> Reply
         Call::IsValuesWay { bytes } => verdict(call, read_values_way(bytes).is_some(), out),
         Call::IsElementWay { bytes } => verdict(call, read_element_way(bytes).is_some(), out),
     }
+}
+
+/// Takes the next answer off a script's answers: its words and what was written; None at their end.
+pub fn take_answer<'a>(rest: &mut &'a [u8]) -> Option<(Vec<&'a str>, &'a [u8])> {
+    if rest.is_empty() {
+        return None;
+    }
+    let words: Vec<&str> = take_line(rest).split(' ').collect();
+    // `name 0 applied dropped written rest` is followed by what was written.
+    let written = match words[1..] {
+        ["0", _, _, written, _] => take_block(rest, written.parse().expect("a length")),
+        _ => &[],
+    };
+    Some((words, written))
 }
 
 fn done() -> Answer {

@@ -3,7 +3,7 @@
 
 use sheet::{Answer, Document};
 
-use crate::call::Call;
+use crate::call::{line, Call};
 use crate::make::{lines, next};
 use crate::replay::{perform, Reply};
 
@@ -47,6 +47,12 @@ impl Script {
     pub fn call(&mut self, call: Call) -> Reply {
         call.write(&mut self.text);
         perform(&mut self.document, &call, &mut Vec::new())
+    }
+
+    /// Writes the `save` of a script that bench/works times, whose number says how many turns
+    /// there are. It is no call, and may be longer than any buffer.
+    pub fn turns(&mut self, turns: usize) {
+        line(&mut self.text, &[&"save", &turns]);
     }
 
     pub fn reset(&mut self) {

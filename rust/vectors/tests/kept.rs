@@ -1,26 +1,21 @@
 //! The kept vectors are what the generator gives, and they show what they are kept for.
 
+mod common;
 use std::collections::BTreeSet;
 use std::fs;
-use std::path::PathBuf;
 
+use common::{folder, kept};
 use sheet::{Branches, Document, MOST, MOST_WAITING};
 use vectors::call::{Call, GREATEST, LONGEST_BUFFER};
 use vectors::counts::Counts;
 use vectors::kept::files;
-use vectors::kinds::KINDS;
+use vectors::kinds::{script, KINDS};
+use vectors::random::Random;
 use vectors::replay::{perform, replay};
+use vectors::streams::{examples, FIVE};
 
-/// 2.5 MiB
-const MOST_KEPT: usize = 5 * 512 * 1024;
-
-fn folder() -> PathBuf {
-    PathBuf::from(env!("CARGO_MANIFEST_DIR")).join("../../vectors")
-}
-
-fn kept(name: &str) -> Vec<u8> {
-    fs::read(folder().join(name)).unwrap_or_else(|error| panic!("{name}: {error}"))
-}
+/// 4 MiB
+const MOST_KEPT: usize = 4 * 1024 * 1024;
 
 #[test]
 fn the_generator_gives_the_very_bytes() {
@@ -38,9 +33,16 @@ fn the_generator_gives_the_very_bytes() {
 }
 
 #[test]
-fn they_are_2_5_mib_at_most() {
+fn they_are_4_mib_at_most() {
     let size: usize = files().iter().map(|(_, bytes)| bytes.len()).sum();
     assert!(size <= MOST_KEPT, "{size}");
+}
+
+#[test]
+fn the_examples_give_the_sheet_of_document_01() {
+    for (name, stream) in examples() {
+        assert_eq!(String::from_utf8(sheet::merge(&stream).sheet()).unwrap(), FIVE, "{name}");
+    }
 }
 
 #[test]
@@ -126,9 +128,9 @@ fn depth(branches: &Branches) -> usize {
 
 #[test]
 fn another_seed_gives_another_script_that_can_be_played() {
-    for (name, write) in KINDS {
+    for (name, play) in KINDS {
         for seed in 2..6 {
-            let script = write(seed);
+            let script = script(*play, &Random::new(seed));
             assert!(!replay(&script).is_empty());
             assert!(script != kept(&format!("{name}.script")), "{name}");
         }

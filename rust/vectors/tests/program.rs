@@ -1,29 +1,13 @@
 //! The program `vectors` by its arguments.
 
-use std::io::Write;
-use std::path::PathBuf;
-use std::process::{Command, Output, Stdio};
+mod common;
+use std::process::Output;
 use std::{env, fs, process};
 
-fn folder() -> String {
-    concat!(env!("CARGO_MANIFEST_DIR"), "/../../vectors").to_string()
-}
-
-fn kept(name: &str) -> Vec<u8> {
-    fs::read(PathBuf::from(folder()).join(name)).unwrap()
-}
+use common::{folder, kept};
 
 fn run(arguments: &[&str], input: &[u8]) -> Output {
-    let mut program = Command::new(env!("CARGO_BIN_EXE_vectors"))
-        .args(arguments)
-        .stdin(Stdio::piped())
-        .stdout(Stdio::piped())
-        .stderr(Stdio::piped())
-        .spawn()
-        .expect("vectors starts");
-    // A program that doesn't read its input may be gone already.
-    let _ = program.stdin.take().unwrap().write_all(input);
-    program.wait_with_output().unwrap()
+    common::run(env!("CARGO_BIN_EXE_vectors"), arguments, input)
 }
 
 #[test]
@@ -44,6 +28,16 @@ fn fresh() {
 }
 
 #[test]
+fn stream() {
+    let counts = run(&["stream"], &kept("merge-example-other.stream"));
+    assert!(counts.status.success());
+    let text = String::from_utf8(counts.stdout).unwrap();
+    let lines: Vec<Vec<&str>> = text.lines().map(|line| line.split_whitespace().collect()).collect();
+    assert_eq!(lines[1][..3], ["stream", "5", "0"], "{text}");
+    assert_eq!(lines[2], ["applied", "5,", "dropped", "0"], "{text}");
+}
+
+#[test]
 fn keep_and_counts() {
     let new = env::temp_dir().join(format!("vectors-{}", process::id()));
     fs::create_dir(&new).unwrap();
@@ -52,7 +46,7 @@ fn keep_and_counts() {
     let counts = run(&["counts", new.to_str().unwrap()], b"");
     fs::remove_dir_all(&new).unwrap();
     assert!(counts.status.success());
-    assert!(counts.stdout == run(&["counts", &folder()], b"").stdout);
+    assert!(counts.stdout == run(&["counts", folder().to_str().unwrap()], b"").stdout);
     let text = String::from_utf8(counts.stdout).unwrap();
     let all = text.lines().find_map(|line| line.strip_prefix("all calls")).unwrap();
     let zeros: Vec<usize> = all
@@ -73,6 +67,8 @@ fn what_makes_no_sense_is_refused() {
         &["script", "wild", "x"],
         &["fresh", "1"],
         &["fresh", "1", "x"],
+        &["bench", "small", "x"],
+        &["bench", "nothing", "1"],
     ] {
         let output = run(arguments, b"");
         assert_eq!(output.status.code(), Some(2), "{arguments:?}");

@@ -1,5 +1,6 @@
 //! The formats of docs/REPLAY.md, by an example written out by hand, and fresh streams.
 
+use vectors::counts::of_stream;
 use vectors::fresh;
 use vectors::replay::replay;
 
@@ -77,4 +78,22 @@ fn a_long_fresh_stream_is_applied_for_the_most_part() {
     let document = sheet::merge(&stream);
     let seen: u64 = document.seen().0.iter().map(|&counter| u64::from(counter)).sum();
     assert!(seen > 5000, "{:?}", document.seen());
+}
+
+#[test]
+fn crowds_get_each_answer_that_can_come() {
+    let (mut answers, mut settled, mut all_dropped) = ([0; 15], 0, 0);
+    for seed in [0, 3, 6, 9] {
+        let (counts, applied, dropped) = of_stream(&fresh::stream(seed, 1000));
+        for (number, count) in counts.calls.iter().enumerate() {
+            answers[number] += count;
+        }
+        assert!(applied > 250, "{seed}: {applied}");
+        settled += applied - counts.calls[0];
+        all_dropped += dropped;
+    }
+    for number in [0, 1, 2, 3, 4, 5, 6, 7, 8, 10] {
+        assert!(answers[number] > 50, "{number} in {answers:?}");
+    }
+    assert!(settled > 200 && all_dropped > 200, "{settled} {all_dropped}");
 }

@@ -13,7 +13,8 @@ fn main() {
     for turn in 0..count {
         let message = std::hint::black_box(&message);
         if let Ok(operation) = read_message(message) {
-            sum = sum.wrapping_add(u64::from(operation.id.counter) + u64::from(operation.id.terminal) + turn % 2);
+            sum = sum
+                .wrapping_add(u64::from(operation.id.counter) + u64::from(operation.id.terminal) + turn % 2);
         }
     }
     println!("{sum}");

@@ -1,7 +1,8 @@
 //! What the tests share.
-#![allow(dead_code)]
+#![allow(dead_code, unused_imports)]
 
 use sheet::{Answer, Document};
+pub use vectors::streams::{five, FIVE};
 
 /// A message. Of `deps` the first entries are given, the others are 0; a delete has no value.
 pub fn message(id: &str, deps: &str, at: &str, deed: &str, value: &str) -> Vec<u8> {
@@ -77,32 +78,3 @@ pub fn read(call: impl FnOnce(&mut [u8]) -> Answer) -> (u8, String) {
         refusal => (refusal.number(), String::new()),
     }
 }
-
-/// The five messages of document 01, and the sheet that it shows.
-pub fn five() -> [Vec<u8>; 5] {
-    [
-        assign("1.1", "", "73", "["),
-        insert("2.1", "1", "73[^", "s61"),
-        insert("3.1", "2", "73[2.1", "s62"),
-        insert("3.2", "2", "73[2.1", "s63"),
-        delete("4.1", "3", "73[2.1"),
-    ]
-}
-
-pub const FIVE: &str = "\
-sheet=1
-seen=4,3,0,0,0,0,0,0
-place=1{l73
-mark=1.1
-mark=2.1
-mark=3.1
-mark=3.2
-place=2[-2.1
-place=2[-3.2
-mark=3.2
-value=3.2:s63
-place=2[-3.1
-mark=3.1
-value=3.1:s62
-end=4
-";

@@ -4,30 +4,27 @@
 use sheet::Document;
 
 use super::applied_limits::{clear_list, clear_map, marks, places, values};
-use crate::make::{deps, edit, hex, id, id_text, lines, message, value, Taste};
+use crate::make::{deps, edit, heard, hex, id, id_text, lines, message, next_id, value, Taste};
 use crate::random::Random;
 use crate::script::Script;
 
-pub fn script(seed: u64) -> Vec<u8> {
-    let mut random = Random::new(seed);
-    let mut script = Script::new();
-    refusals(&mut script);
-    kinds_of_values(&mut script);
-    repeats(&mut random, &mut script);
-    places(&mut script);
-    marks(&mut script);
-    values(&mut script);
-    clear_map(&mut random, &mut script, "assign", "{");
-    clear_map(&mut random, &mut script, "delete", "");
-    clear_list(&mut script, "assign", "[");
-    clear_list(&mut script, "delete", "");
-    stepping_over(&mut script);
-    after_each(&mut random, &mut script);
-    deep_lists(&mut script);
+pub fn play(random: &mut Random, script: &mut Script) {
+    refusals(script);
+    kinds_of_values(script);
+    repeats(random, script);
+    places(script);
+    marks(script);
+    values(script);
+    clear_map(random, script, "assign", "{");
+    clear_map(random, script, "delete", "");
+    clear_list(script, "assign", "[");
+    clear_list(script, "delete", "");
+    stepping_over(script);
+    after_each(random, script);
+    deep_lists(script);
     for deeper in [60, 85] {
-        near(&mut random, &mut script, deeper);
+        near(random, script, deeper);
     }
-    script.into_text()
 }
 
 /// Every refusal of a message that can come, each on a document with a list of two elements.
@@ -118,8 +115,7 @@ fn kinds_of_values(script: &mut Script) {
     let seen = *script.document().seen();
     for (turn, value) in values.iter().enumerate() {
         let terminal = 1 + turn % 8;
-        let mut deps = deps(&[10]);
-        deps.0[terminal - 1] = script.document().seen().0[terminal - 1];
+        let deps = heard(script.document(), terminal, &[10]);
         let counter = deps.largest().max(seen.largest()) + 1 + turn as u32;
         receive(script, &message(id(counter, terminal as u8), &deps, &lines("61", "assign", value)));
     }
@@ -166,11 +162,9 @@ fn stepping_over(script: &mut Script) {
     script.receive_next(8, "6c[^", "insert", "t");
     for (terminal, count) in [(2, 60), (1, 30), (4, 20), (3, 40), (7, 25), (5, 10)] {
         for turn in 0..count {
-            let own = script.document().seen().0[terminal - 1];
-            let mut deps = deps(&[0, 0, 0, 0, 0, 0, 0, 2]);
-            deps.0[terminal - 1] = own;
+            let deps = heard(script.document(), terminal, &[0, 0, 0, 0, 0, 0, 0, 2]);
             let at = if turn % 3 == 0 { "6c[^" } else { "6c[2.8" };
-            let counter = own.max(2) + 1 + turn % 2;
+            let counter = deps.largest() + 1 + turn % 2;
             receive(script, &message(id(counter, terminal as u8), &deps, &lines(at, "insert", "n")));
         }
     }
@@ -188,7 +182,7 @@ fn after_each(random: &mut Random, script: &mut Script) {
             order.reverse();
         }
         for prev in order {
-            let new = id(script.document().seen().largest() + 1, 1 + round % 8);
+            let new = next_id(script.document(), 1 + round % 8);
             script.receive_next(new.terminal, &format!("6c[{}", id_text(prev)), "insert", "t");
             there.push(new);
         }
@@ -207,7 +201,7 @@ fn deep_lists(script: &mut Script) {
     script.reset();
     let mut way = "6c".to_string();
     for depth in 2..=8 {
-        let new = id_text(id(script.document().seen().largest() + 1, 1));
+        let new = id_text(next_id(script.document(), 1));
         script.receive_next(1, &format!("{way}[^"), "insert", "[");
         if depth == 8 {
             script.receive_next(2, &format!("{way}[{new}"), "insert", "s");

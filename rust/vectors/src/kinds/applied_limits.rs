@@ -5,7 +5,7 @@ use sheet::{Size, MOST};
 
 use super::applied::receive;
 use crate::call::Call;
-use crate::make::{deps, hex, id, lines, message};
+use crate::make::{deps, heard, hex, id, lines, message};
 use crate::random::Random;
 use crate::script::Script;
 
@@ -91,21 +91,11 @@ pub fn values(script: &mut Script) {
     script.reset();
     for key in 0..32 {
         for terminal in 1..=8 {
-            let own = script.document().seen().0[terminal - 1];
-            let mut deps = deps(&[]);
-            deps.0[terminal - 1] = own;
-            let edit = lines(&hex(&[key]), "assign", &format!("i{}", u64::from(key) * 8 + terminal as u64));
-            receive(script, &message(id(own + 1, terminal as u8), &deps, &edit));
+            apart(script, terminal, &hex(&[key]), &format!("i{}", usize::from(key) * 8 + terminal));
         }
     }
     assert_eq!(script.document().size().values, MOST.values);
     script.save();
-    let apart = |script: &mut Script, terminal: usize, at: &str, value: &str| {
-        let mut deps = deps(&[]);
-        deps.0[terminal - 1] = script.document().seen().0[terminal - 1];
-        let new = id(deps.largest() + 1, terminal as u8);
-        receive(script, &message(new, &deps, &lines(at, "assign", value)));
-    };
     apart(script, 1, "ff", "t");
     apart(script, 1, "00{00", "t");
     apart(script, 1, "00", "t");
@@ -120,6 +110,13 @@ pub fn values(script: &mut Script) {
     script.receive_next(7, "10", "delete", "");
     apart(script, 5, "10", "n");
     script.save();
+}
+
+/// An assign of a terminal that has heard of no other.
+fn apart(script: &mut Script, terminal: usize, at: &str, value: &str) {
+    let deps = heard(script.document(), terminal, &[]);
+    let new = id(deps.largest() + 1, terminal as u8);
+    receive(script, &message(new, &deps, &lines(at, "assign", value)));
 }
 
 /// 250 places under a key of the root, with 1,000 marks and more, are cleared: what one of

@@ -7,18 +7,15 @@ use crate::make::{deps, edit, honest_edit, id, message, WILD};
 use crate::random::Random;
 use crate::script::{Script, ROOM};
 
-pub fn script(seed: u64) -> Vec<u8> {
-    let mut random = Random::new(seed);
-    let mut script = Script::new();
+pub fn play(random: &mut Random, script: &mut Script) {
     for terminals in [1, 2, 3, 8] {
-        let messages = talk(&mut random, terminals, 64);
-        backwards(&mut script, &messages);
-        mixed(&mut random, &mut script, &messages);
+        let messages = talk(random, terminals, 64);
+        backwards(script, &messages);
+        mixed(random, script, &messages);
     }
     for _ in 0..60 {
-        small_world(&mut random, &mut script);
+        small_world(random, script);
     }
-    script.into_text()
 }
 
 /// The messages of terminals that hear each other at once.

@@ -7,33 +7,26 @@ use crate::make::{damaged, edit, next, way, wild, HONEST, WILD};
 use crate::random::Random;
 use crate::script::{Script, ROOM};
 
-pub fn script(seed: u64) -> Vec<u8> {
-    let mut random = Random::new(seed);
-    let mut script = Script::new();
+pub fn play(random: &mut Random, script: &mut Script) {
     for _ in 0..6 {
         script.reset();
         for call in 0..120 {
-            step(&mut random, &mut script);
+            step(random, script);
             if call % 40 == 39 {
                 script.save();
             }
         }
     }
     for edits in [1, 3, 6, 10] {
-        let sheet = grown(&mut random, edits).sheet();
-        each_line(&mut script, &sheet);
+        let sheet = grown(random, edits).sheet();
+        each_line(script, &sheet);
         for _ in 0..90 {
-            let sheet = if random.chance(60) {
-                damaged(&mut random, &sheet)
-            } else {
-                moved_lines(&mut random, &sheet)
-            };
+            let sheet = if random.chance(60) { damaged(random, &sheet) } else { moved_lines(random, &sheet) };
             if script.load(&sheet).number() == 0 {
                 script.save();
             }
         }
     }
-    script.into_text()
 }
 
 /// One call, damaged or not.

@@ -2,33 +2,30 @@
 
 use super::reads::read;
 use crate::call::Call;
-use crate::make::{deps, edit, hex, id, id_text, lines, message, wild, DEEP};
+use crate::make::{deps, edit, hex, id, id_text, lines, message, next_id, wild, DEEP};
 use crate::random::Random;
 use crate::script::{Script, ROOM};
 
-pub fn script(seed: u64) -> Vec<u8> {
-    let mut random = Random::new(seed);
-    let mut script = Script::new();
-    maps(&mut script);
-    lists(&mut script);
-    longest(&mut script);
+pub fn play(random: &mut Random, script: &mut Script) {
+    maps(script);
+    lists(script);
+    longest(script);
     for _ in 0..4 {
         script.reset();
         for _ in 0..50 {
             if random.chance(40) {
-                let message = wild(&mut random, script.document(), DEEP, 1..=3);
+                let message = wild(random, script.document(), DEEP, 1..=3);
                 script.receive(&message);
             } else {
-                let lines = edit(&mut random, script.document(), DEEP);
+                let lines = edit(random, script.document(), DEEP);
                 script.edit(4, &lines);
             }
             if random.chance(30) {
-                read(&mut random, &mut script, DEEP);
+                read(random, script, DEEP);
             }
         }
         script.save();
     }
-    script.into_text()
 }
 
 /// Each depth from 1 to 9 under a map.
@@ -56,7 +53,7 @@ fn lists(script: &mut Script) {
     script.reset();
     let mut way = "6c".to_string();
     for _ in 2..=9 {
-        let new = id_text(id(script.document().seen().largest() + 1, 1));
+        let new = id_text(next_id(script.document(), 1));
         script.edit(1, &lines(&format!("{way}[^"), "insert", "["));
         script.element(format!("{way}[").as_bytes(), 1);
         way = format!("{way}[{new}");

@@ -5,14 +5,11 @@ use crate::make::{deps, id, id_text, lines, message, value};
 use crate::random::Random;
 use crate::script::Script;
 
-pub fn script(seed: u64) -> Vec<u8> {
-    let mut random = Random::new(seed);
-    let mut script = Script::new();
-    both_orders(&mut script);
+pub fn play(random: &mut Random, script: &mut Script) {
+    both_orders(script);
     for _ in 0..8 {
-        neighbours(&mut random, &mut script);
+        neighbours(random, script);
     }
-    script.into_text()
 }
 
 /// Example 7 in both orders, with each kind of edit of the neighbour.

@@ -4,26 +4,23 @@
 use sheet::Document;
 
 use crate::call::Call;
-use crate::make::{deps, edit, hex, id, lines, message, wild, Taste};
+use crate::make::{deps, edit, heard, hex, id, lines, message, wild, Taste};
 use crate::random::Random;
 use crate::script::{Script, ROOM};
 
-pub fn script(seed: u64) -> Vec<u8> {
-    let mut random = Random::new(seed);
-    let mut script = Script::new();
-    places(&mut script);
-    marks(&mut script);
-    values(&mut script);
-    clearing(&mut script);
-    inserts(&mut random, &mut script);
-    any_order(&mut random, &mut script);
-    longest_sheet(&mut script);
-    over_in_sheets(&mut script);
-    many_values(&mut script);
+pub fn play(random: &mut Random, script: &mut Script) {
+    places(script);
+    marks(script);
+    values(script);
+    clearing(script);
+    inserts(random, script);
+    any_order(random, script);
+    longest_sheet(script);
+    over_in_sheets(script);
+    many_values(script);
     for deeper in [30, 60, 85] {
-        near(&mut random, &mut script, deeper);
+        near(random, script, deeper);
     }
-    script.into_text()
 }
 
 fn places(script: &mut Script) {
@@ -103,9 +100,9 @@ fn clearing(script: &mut Script) {
         prev = format!("{counter}.1");
     }
     for (element, counter) in [(2, 300), (100, 301), (251, 302)] {
-        let own = script.document().seen().0[1];
+        let deps = heard(script.document(), 2, &[251]);
         let at = format!("6c[{element}.1");
-        script.receive(&message(id(counter, 2), &deps(&[251, own]), &lines(&at, "assign", "f")));
+        script.receive(&message(id(counter, 2), &deps, &lines(&at, "assign", "f")));
     }
     script.receive(&message(id(303, 1), &deps(&[251, 300]), &lines("6c", "delete", "")));
     script.element(b"6c[", 1);
@@ -134,10 +131,8 @@ fn inserts(random: &mut Random, script: &mut Script) {
     }
     for _ in 0..60 {
         let terminal = random.from_to(3, 7);
-        let own = script.document().seen().0[terminal - 1];
-        let mut deps = deps(&[0, 0, 0, 0, 0, 0, 0, 2]);
-        deps.0[terminal - 1] = own;
-        let counter = own.max(2) + random.from_to(1, 9) as u32;
+        let deps = heard(script.document(), terminal, &[0, 0, 0, 0, 0, 0, 0, 2]);
+        let counter = deps.largest() + random.from_to(1, 9) as u32;
         let at = if random.chance(50) { "6c[2.8" } else { "6c[^" };
         script.receive(&message(id(counter, terminal as u8), &deps, &lines(at, "insert", "[")));
     }
@@ -162,8 +157,7 @@ fn any_order(random: &mut Random, script: &mut Script) {
         let own = script.document().seen().0[terminal - 1];
         let counter = own + random.from_to(1, 2) as u32;
         let covered = (counter - 1).min(20);
-        let mut deps = deps(&[covered; 5]);
-        deps.0[terminal - 1] = own;
+        let deps = heard(script.document(), terminal, &[covered; 5]);
         let covered: Vec<_> = elements.iter().filter(|(c, _)| *c as u32 <= covered).collect();
         let at = if covered.is_empty() || random.chance(20) {
             "6c[^".to_string()

@@ -7,13 +7,10 @@ use crate::make::{honest_edit, HONEST};
 use crate::random::Random;
 use crate::script::Script;
 
-pub fn script(seed: u64) -> Vec<u8> {
-    let mut random = Random::new(seed);
-    let mut script = Script::new();
+pub fn play(random: &mut Random, script: &mut Script) {
     for terminals in [2, 3, 4, 8, 3, 2] {
-        script.append(meeting(&mut random, terminals, 60));
+        script.append(meeting(random, terminals, 60));
     }
-    script.into_text()
 }
 
 struct Terminal {

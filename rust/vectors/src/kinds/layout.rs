@@ -5,17 +5,14 @@ use crate::make::{damaged, deps, edit, hex, id, lines, message, way, wild, DEEP,
 use crate::random::Random;
 use crate::script::Script;
 
-pub fn script(seed: u64) -> Vec<u8> {
-    let mut random = Random::new(seed);
-    let mut script = Script::new();
-    ids(&mut script);
-    counters(&mut script);
-    values(&mut script);
-    ways(&mut script);
-    deeds(&mut script);
-    shapes(&mut script);
-    by_chance(&mut random, &mut script);
-    script.into_text()
+pub fn play(random: &mut Random, script: &mut Script) {
+    ids(script);
+    counters(script);
+    values(script);
+    ways(script);
+    deeds(script);
+    shapes(script);
+    by_chance(random, script);
 }
 
 fn is_message(script: &mut Script, text: &str) {

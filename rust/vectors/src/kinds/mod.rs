@@ -1,4 +1,4 @@
-//! The kinds of scripts. Each writes a script from a seed.
+//! The kinds of scripts.
 
 mod applied;
 mod applied_limits;
@@ -10,22 +10,37 @@ mod full;
 mod honest;
 mod layout;
 mod reads;
+mod received;
 mod waiting;
 mod wild;
 
-/// A kind's name and its writer.
-pub type Kind = (&'static str, fn(u64) -> Vec<u8>);
+use crate::random::Random;
+use crate::script::Script;
+
+/// Makes the calls of a kind, behind the `reset` that begins a script.
+pub type Play = fn(&mut Random, &mut Script);
+
+/// A kind's name and what plays it.
+pub type Kind = (&'static str, Play);
 
 pub const KINDS: &[Kind] = &[
-    ("honest", honest::script),
-    ("wild", wild::script),
-    ("damaged", damaged::script),
-    ("full", full::script),
-    ("waiting", waiting::script),
-    ("chains", chains::script),
-    ("deep", deep::script),
-    ("deleted", deleted::script),
-    ("reads", reads::script),
-    ("layout", layout::script),
-    ("applied", applied::script),
+    ("honest", honest::play),
+    ("wild", wild::play),
+    ("damaged", damaged::play),
+    ("full", full::play),
+    ("waiting", waiting::play),
+    ("chains", chains::play),
+    ("deep", deep::play),
+    ("deleted", deleted::play),
+    ("reads", reads::play),
+    ("layout", layout::play),
+    ("applied", applied::play),
+    ("received", received::play),
 ];
+
+/// The script of a kind, by chance as `random` now has it.
+pub fn script(play: Play, random: &Random) -> Vec<u8> {
+    let mut script = Script::new();
+    play(&mut random.clone(), &mut script);
+    script.into_text()
+}

@@ -5,25 +5,22 @@ use crate::make::{edit, way, Last, Taste, DEEP, WILD};
 use crate::random::Random;
 use crate::script::Script;
 
-pub fn script(seed: u64) -> Vec<u8> {
-    let mut random = Random::new(seed);
-    let mut script = Script::new();
-    empty(&mut script);
+pub fn play(random: &mut Random, script: &mut Script) {
+    empty(script);
     for edits in [5, 20, 60] {
         script.reset();
         for _ in 0..edits {
             let taste = if random.chance(70) { WILD } else { DEEP };
-            let lines = edit(&mut random, script.document(), taste);
+            let lines = edit(random, script.document(), taste);
             script.edit(1 + random.below(3) as u64, &lines);
         }
         script.at_border(|buffer| Call::Save { buffer });
         script.at_border(|buffer| Call::Keys { way: b"", buffer });
         for _ in 0..2 * edits {
-            read(&mut random, &mut script, WILD);
-            read(&mut random, &mut script, DEEP);
+            read(random, script, WILD);
+            read(random, script, DEEP);
         }
     }
-    script.into_text()
 }
 
 /// The ways of the root and of the empty key, in an empty document and with that key.

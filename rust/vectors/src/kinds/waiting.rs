@@ -4,19 +4,16 @@ use crate::make::{deps, id, lines, message, next, wild, WILD};
 use crate::random::Random;
 use crate::script::Script;
 
-pub fn script(seed: u64) -> Vec<u8> {
-    let mut random = Random::new(seed);
-    let mut script = Script::new();
-    own_chain(&mut script);
-    on_another(&mut random, &mut script);
-    dropped(&mut script);
-    all_dropped(&mut script);
-    held_back(&mut script);
+pub fn play(random: &mut Random, script: &mut Script) {
+    own_chain(script);
+    on_another(random, script);
+    dropped(script);
+    all_dropped(script);
+    held_back(script);
     for _ in 0..3 {
-        gaps(&mut random, &mut script);
+        gaps(random, script);
     }
-    crowded(&mut random, &mut script);
-    script.into_text()
+    crowded(random, script);
 }
 
 fn at(key: &str) -> Vec<u8> {

@@ -5,32 +5,29 @@ use crate::make::{deps, edit, id, lines, message, wild, WILD};
 use crate::random::Random;
 use crate::script::Script;
 
-pub fn script(seed: u64) -> Vec<u8> {
-    let mut random = Random::new(seed);
-    let mut script = Script::new();
-    small(&mut script);
+pub fn play(random: &mut Random, script: &mut Script) {
+    small(script);
     for terminals in [1..=1, 1..=2, 1..=3, 1..=8, 7..=8] {
         script.reset();
         for call in 0..220 {
-            let message = wild(&mut random, script.document(), WILD, terminals.clone());
+            let message = wild(random, script.document(), WILD, terminals.clone());
             script.receive(&message);
             if random.chance(5) {
                 script.receive(&message);
             }
             if random.chance(10) {
-                let lines = edit(&mut random, script.document(), WILD);
+                let lines = edit(random, script.document(), WILD);
                 script.edit(random.below(10) as u64, &lines);
             }
             if random.chance(10) {
-                read(&mut random, &mut script, WILD);
+                read(random, script, WILD);
             }
             if call % 70 == 69 {
                 script.save();
             }
         }
     }
-    ends(&mut script);
-    script.into_text()
+    ends(script);
 }
 
 /// Every id and deps up to 2 of two terminals, after each of a few beginnings.

@@ -1,0 +1,66 @@
+//! Plays a script that bench/works times, from standard input: `receive` calls build a terminal, `save T` asks for
+//! T turns, and a turn takes a copy of that terminal, receives the messages behind it and, if a `save B` ends the
+//! script, saves into a buffer of B bytes. Prints the places, marks, values and waiting messages at the end and the
+//! bytes of the last save. Has no start-up of std's: the emulator that runs it on Arm fails on what that opens.
+#![no_main]
+
+use std::fs::File;
+use std::hint::black_box;
+use std::io::{Read, Write};
+use std::os::fd::FromRawFd;
+
+use sheet::{Answer, Document};
+use vectors::call::Call;
+
+#[no_mangle]
+pub extern "C" fn main() -> i32 {
+    let mut script = Vec::new();
+    // The two are open, and nothing else in this program holds them.
+    let (mut input, mut output) = unsafe { (File::from_raw_fd(0), File::from_raw_fd(1)) };
+    input.read_to_end(&mut script).expect("standard input");
+    output.write_all(play(&script).as_bytes()).expect("standard output");
+    0
+}
+
+/// What is printed.
+fn play(script: &[u8]) -> String {
+    let mut rest = script;
+    let (built, turns) = build(&mut rest);
+    let mut messages = Vec::new();
+    let mut buffer = None;
+    while let Some(call) = Call::take(&mut rest) {
+        match call {
+            Call::Receive { message } => messages.push(message),
+            Call::Save { buffer: length } => buffer = Some(vec![0; length]),
+            _ => panic!("a receive or the last save"),
+        }
+    }
+    let mut document = built.clone();
+    let mut written = 0;
+    for _ in 0..turns {
+        document = black_box(&built).clone();
+        for message in black_box(&messages) {
+            document.receive(message);
+        }
+        if let Some(buffer) = &mut buffer {
+            if let Answer::Done { written: bytes, .. } = black_box(&document).save(buffer) {
+                written = bytes;
+            }
+        }
+        black_box(&mut document);
+    }
+    let (size, waiting) = (document.size(), document.waiting().len());
+    format!("{} {} {} {waiting} {written}\n", size.places, size.marks, size.values)
+}
+
+/// The terminal that the messages ahead of the first `save` build, and the number of turns.
+fn build(rest: &mut &[u8]) -> (Document, usize) {
+    let mut document = Document::new();
+    loop {
+        match Call::take(rest) {
+            Some(Call::Receive { message }) => document.receive(message),
+            Some(Call::Save { buffer: turns }) => return (document, turns),
+            _ => panic!("a receive or the first save"),
+        };
+    }
+}
