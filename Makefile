@@ -1,12 +1,12 @@
 # The two commands of the README.
-#   make demo   proves every crate and runs the main job on an example
+#   make demo   proves and builds `merge`, and runs it on two streams
 #   make test   passes all tests; its last line is the gate's own, 'N passed, 0 failed'
 .PHONY: demo test setup rust-test same
 
-demo: setup
-	rt check
-	cd rust && cargo build --release --quiet
-	rust/target/release/merge <examples/five.messages
+demo:
+	rt check merge
+	tools/run target/bin/merge <examples/five.messages
+	tools/run target/bin/merge <examples/bringup.messages
 
 test: setup rust-test same
 	rt ci
@@ -21,11 +21,16 @@ rust-test:
 	cd rust && cargo build --release --quiet
 	tools/streams rust/target/release/merge
 
-# rt follows no link, so a program's input and output are copies: of the kept vectors, and of what bench/reads and bench/applies time
+# rt follows no link, so a program's input and output are copies: of the kept vectors, and of what bench/reads and bench/works time
 same:
 	cmp vectors/layout.script crates/verdicts/stdin
 	cmp vectors/layout.answers crates/verdicts/stdout
-	cmp vectors/applied.script crates/applies/stdin
-	cmp vectors/applied.answers crates/applies/stdout
+	cat vectors/received.script vectors/applied.script | cmp - crates/replay/stdin
+	cat vectors/received.answers vectors/applied.answers | cmp - crates/replay/stdout
+	cmp examples/five.messages crates/merge/stdin
+	cmp vectors/merge-example.sheet crates/merge/stdout
+	cmp vectors/merge-example-other.stream crates/merge_exchanged/stdin
+	cmp vectors/merge-example.sheet crates/merge_exchanged/stdout
 	cmp bench/typical.message crates/readings/stdin
 	rust/target/release/vectors bench typical 10 | cmp - crates/works/stdin
+	rust/target/release/workbench <crates/works/stdin | cmp - crates/works/stdout

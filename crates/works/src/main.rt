@@ -1,15 +1,22 @@
-// Plays a script of docs/REPLAY.md with `receive` calls only, but for one `save` among them: those ahead of it build a document, and those
-// behind it are received as many times as the number of the `save` says, each time by that document anew. Says how many places, marks and
-// values there are at the end. The program that bench/applies times.
+// The program that bench/works times. Plays a script of docs/REPLAY.md: the `receive` calls ahead of the first `save` build a terminal; then
+// come as many turns as the number of that `save` says. A turn takes a copy of the terminal, receives the messages behind the `save` and,
+// if a `save` ends the script, saves into a buffer of that many bytes. Says how many places, marks, values and waiting messages there are at
+// the end, and how many bytes the last save wrote.
+use libc::STDIN_FILENO;
 use libc::STDOUT_FILENO;
-use meaning::Counters;
-use tables::Counts;
+use meaning::Saved;
+use terminal::State;
 
-// Where the next call stands, and the document's counts and counters.
-struct State {
+// Where the next call stands, and the terminal's state.
+struct Played {
     at: usize,
-    counts: Counts,
-    seen: Counters,
+    state: State,
+}
+
+// The terminal's state at the end of a turn, and the bytes that were saved.
+struct Turned {
+    state: State,
+    written: usize,
 }
 
 fn say_number(n: usize, behind: &[u8]) {
@@ -36,31 +43,25 @@ fn receive(
     keys: &mut [u64],
     marks: &mut [u64],
     values: &mut [u64],
-    s: State,
-) -> State {
-    let b = script::block(text, s.at, b"receive ");
+    waiting: &mut [u64],
+    p: Played,
+) -> Played {
+    let b = script::block(text, p.at, b"receive ");
     if !b.ok {
-        return s;
+        return p;
     }
-    let m = message::take_message(script::part(text, b.from, b.to));
-    let c = s.counts;
-    let seen = s.seen;
-    if !m.ok {
-        return State {
-            at: b.next,
-            counts: c,
-            seen,
-        };
-    }
-    let op = m.op;
-    let o = operate::apply(heads, keys, marks, values, c, seen, op);
-    let counts = o.counts;
-    let later = o.seen;
-    State {
-        at: b.next,
-        counts,
-        seen: later,
-    }
+    let s = p.state;
+    let r = terminal::receive(
+        heads,
+        keys,
+        marks,
+        values,
+        waiting,
+        s,
+        script::part(text, b.from, b.to),
+    );
+    let state = r.state;
+    Played { at: b.next, state }
 }
 
 // Receives the messages up to the first call that is another one.
@@ -70,38 +71,79 @@ fn receive_all(
     keys: &mut [u64],
     marks: &mut [u64],
     values: &mut [u64],
-    start: State,
-) -> State {
-    let mut s = start;
-    let mut at = s.at;
-    while at < text.len() {
-        s = receive(text, heads, keys, marks, values, s);
-        if s.at <= at {
-            return s;
+    waiting: &mut [u64],
+    start: Played,
+) -> Played {
+    let mut p = start;
+    let mut left = text.len();
+    while left > 0 {
+        let at = p.at;
+        p = receive(text, heads, keys, marks, values, waiting, p);
+        left -= 1;
+        if p.at <= at {
+            left = 0;
         }
-        at = s.at;
     }
-    s
+    p
 }
 
-// The document as it was built, and the messages received by it.
+// How many bytes were written.
+fn written(saved: Saved) -> usize {
+    match saved {
+        Saved::Written { written } => written,
+        Saved::ShortBuffer { needed: _ } => 0,
+    }
+}
+
+// Saves, if there is a last call and it is such.
+fn save(
+    text: &[u8],
+    heads: &[u64],
+    keys: &[u64],
+    marks: &[u64],
+    values: &[u64],
+    p: Played,
+    buf: &mut [u8],
+) -> usize {
+    let line = script::first_line(text, p.at, b"save ");
+    if !line.ok {
+        return 0;
+    }
+    let n = line.number;
+    if n > buf.len() {
+        return 0;
+    }
+    let s = p.state;
+    let counts = s.counts;
+    let seen = s.seen;
+    written(sheet::save(heads, keys, marks, values, counts, seen, &mut buf[..n]))
+}
+
+// One turn with the terminal as it was built.
 fn turn(
     text: &[u8],
     heads: &mut [u64],
     keys: &mut [u64],
     marks: &mut [u64],
     values: &mut [u64],
+    waiting: &mut [u64],
     built_heads: &[u64],
     built_keys: &[u64],
     built_marks: &[u64],
     built_values: &[u64],
-    built: State,
-) -> State {
+    built_waiting: &[u64],
+    built: Played,
+    buf: &mut [u8],
+) -> Turned {
     copy(heads, built_heads);
     copy(keys, built_keys);
     copy(marks, built_marks);
     copy(values, built_values);
-    receive_all(text, heads, keys, marks, values, built)
+    copy(waiting, built_waiting);
+    let p = receive_all(text, heads, keys, marks, values, waiting, built);
+    let written = save(text, heads, keys, marks, values, p, buf);
+    let state = p.state;
+    Turned { state, written }
 }
 
 // All turns.
@@ -111,31 +153,38 @@ fn turns(
     keys: &mut [u64],
     marks: &mut [u64],
     values: &mut [u64],
+    waiting: &mut [u64],
     built_heads: &[u64],
     built_keys: &[u64],
     built_marks: &[u64],
     built_values: &[u64],
-    built: State,
+    built_waiting: &[u64],
+    built: Played,
+    buf: &mut [u8],
     count: usize,
-) -> State {
+) -> Turned {
+    let state = built.state;
+    let mut last = Turned { state, written: 0 };
     let mut left = count;
-    let mut s = built;
     while 0 < left {
-        s = turn(
+        last = turn(
             text,
             heads,
             keys,
             marks,
             values,
+            waiting,
             built_heads,
             built_keys,
             built_marks,
             built_values,
+            built_waiting,
             built,
+            buf,
         );
         left -= 1;
     }
-    s
+    last
 }
 
 // Keeps the tables as they were built, for the turns.
@@ -145,9 +194,10 @@ fn keep(
     keys: &mut [u64],
     marks: &mut [u64],
     values: &mut [u64],
-    built: State,
+    waiting: &mut [u64],
+    built: Played,
     count: usize,
-) -> State {
+) -> Turned {
     let mut heads_then = [0u64; 264];
     copy(&mut heads_then, heads);
     let mut keys_then = [0u64; 792];
@@ -156,57 +206,84 @@ fn keep(
     copy(&mut marks_then, marks);
     let mut values_then = [0u64; 1542];
     copy(&mut values_then, values);
+    let mut waiting_then = [0u64; 2560];
+    copy(&mut waiting_then, waiting);
+    let mut buf = [0u8; 65536];
     turns(
         text,
         heads,
         keys,
         marks,
         values,
+        waiting,
         &heads_then,
         &keys_then,
         &marks_then,
         &values_then,
+        &waiting_then,
         built,
+        &mut buf,
         count,
     )
 }
 
-// Builds the document, and plays the turns.
+// Builds the terminal, and plays the turns.
 fn play(
     text: &[u8],
     heads: &mut [u64],
     keys: &mut [u64],
     marks: &mut [u64],
     values: &mut [u64],
-) -> State {
-    let begun = State {
-        at: 0,
-        counts: Counts {
-            rows: 0,
-            marks: 0,
-            values: 0,
-        },
-        seen: Counters { at: [0u32; 8] },
-    };
-    let mut built = receive_all(text, heads, keys, marks, values, begun);
-    let line = script::first_line(text, built.at, b"save ");
+    waiting: &mut [u64],
+) -> Turned {
+    let state = terminal::empty();
+    let begun = Played { at: 0, state };
+    let p = receive_all(text, heads, keys, marks, values, waiting, begun);
+    let line = script::first_line(text, p.at, b"save ");
+    let s = p.state;
     if !line.ok {
-        return begun;
+        return Turned {
+            state: s,
+            written: 0,
+        };
     }
-    built.at = line.next;
-    keep(text, heads, keys, marks, values, built, line.number)
+    let built = Played {
+        at: line.next,
+        state: s,
+    };
+    keep(
+        text,
+        heads,
+        keys,
+        marks,
+        values,
+        waiting,
+        built,
+        line.number,
+    )
 }
 
 fn main() {
-    let mut text = [0u8; 65536];
-    let n = io::read_full(0, &mut text);
+    let mut text = [0u8; 131072];
+    let n = io::read_full(STDIN_FILENO, &mut text);
     let mut heads = [0u64; 264];
     let mut keys = [0u64; 792];
     let mut marks = [0u64; 1032];
     let mut values = [0u64; 1542];
-    let s = play(&text[..n], &mut heads, &mut keys, &mut marks, &mut values);
+    let mut waiting = [0u64; 2560];
+    let r = play(
+        &text[..n],
+        &mut heads,
+        &mut keys,
+        &mut marks,
+        &mut values,
+        &mut waiting,
+    );
+    let s = r.state;
     let c = s.counts;
     say_number(c.rows, b" ");
     say_number(c.marks, b" ");
-    say_number(c.values, b"\n");
+    say_number(c.values, b" ");
+    say_number(s.waiting, b" ");
+    say_number(r.written, b"\n");
 }

@@ -1,8 +1,7 @@
--- Every call takes a byte at least.
-use Prim.Native.Nat.{_-_}
+-- `works::receive_all` is safe and ends: there are no more calls than bytes. Assumes nothing.
+use native.Mathlib.Omega.{arith}
+use mathlib.Core.Path.{_≡_, refl}
 use lib.ListN.{length}
-use mathlib.Core.Path.{_≡_}
-use borrow.Author.Needs.{needs}
 use Rattle.works.proofs.receive_all.Statement.{statement}
 use Rattle.works.proofs.receive_all.Tie as tie
 use Rattle.works.proofs.receive_all.Reads as reads
@@ -10,67 +9,52 @@ use Rattle.works.proofs.receive_all.Lts as lts
 use Rattle.works.proofs.receive.Reads as receive-reads
 
 abbrev Inv-loop : tie.InvT-loop
-Inv-loop text heads₀ keys₀ marks₀ values₀ s₀ at₀ heads keys marks values s at =
+Inv-loop text heads₀ keys₀ marks₀ values₀ waiting₀ p₀ left₀ heads keys marks values waiting p left =
     (length heads ≡ length heads₀) × (length keys ≡ length keys₀) × (length marks ≡ length marks₀) × (length values ≡ length values₀)
+    × (length waiting ≡ length waiting₀)
 
 abbrev μ-loop : tie.MeasureT-loop
-μ-loop text heads₀ keys₀ marks₀ values₀ s₀ at₀ heads keys marks values s at = length text - at
+μ-loop text heads₀ keys₀ marks₀ values₀ waiting₀ p₀ left₀ heads keys marks values waiting p left =
+    left
 
--- src/main.rt:63:5
 loop-holds : tie.Need-loop-holds Inv-loop μ-loop
-loop-holds c = search needs
+loop-holds c = (refl, refl, refl, refl, refl)
 
--- src/main.rt:64:9
 receive-requires : tie.Need-receive-requires Inv-loop μ-loop
-receive-requires c κs = search needs
+receive-requires c κs = tt
 
--- src/main.rt:66:13
-same-length : tie.Need-same-length Inv-loop μ-loop
-same-length c = search needs
+sub-left : tie.Need-sub-left Inv-loop μ-loop
+sub-left c = omega (arith, c .before .before .before .before .before .before .before .before .before .before .before .before .before .before .before .before .loop-test .taken)
 
--- src/main.rt:66:13
-same-length-2 : tie.Need-same-length-2 Inv-loop μ-loop
-same-length-2 c = search needs
-
--- src/main.rt:66:13
-same-length-3 : tie.Need-same-length-3 Inv-loop μ-loop
-same-length-3 c = search needs
-
--- src/main.rt:66:13
-same-length-4 : tie.Need-same-length-4 Inv-loop μ-loop
-same-length-4 c = search needs
-
--- src/main.rt:66:13
-returns : tie.Need-returns Inv-loop μ-loop
-returns c = search needs
-
--- src/main.rt:63:5
 loop-less : tie.Need-loop-less Inv-loop μ-loop
-loop-less c = search needs
+loop-less c = omega (arith, c .before .before .before .before .before .before .before .before .before .before .before .before .before .before .before .before .before .before .loop-test .taken)
 
--- src/main.rt:63:5
 loop-again : tie.Need-loop-again Inv-loop μ-loop
-loop-again c = search needs
+loop-again c = (omega (arith, c .before .before .before .before .before .before .before .before .before .before .before .before .before .before .before .before .before .before .before .loop .inv .0, c .before .before .before .before .before .before .before .before .before .before .before .before .receive .kept), omega (arith, c .before .before .before .before .before .before .before .before .before .before .before .before .before .before .before .before .before .before .before .loop .inv .1, c .before .before .before .before .before .before .before .before .before .before .before .before .receive .kept), omega (arith, c .before .before .before .before .before .before .before .before .before .before .before .before .before .before .before .before .before .before .before .loop .inv .2, c .before .before .before .before .before .before .before .before .before .before .before .before .receive .kept), omega (arith, c .before .before .before .before .before .before .before .before .before .before .before .before .before .before .before .before .before .before .before .loop .inv .3, c .before .before .before .before .before .before .before .before .before .before .before .before .receive .kept), omega (arith, c .before .before .before .before .before .before .before .before .before .before .before .before .before .before .before .before .before .before .before .loop .inv .4, c .before .before .before .before .before .before .before .before .before .before .before .before .receive .kept))
 
--- src/main.rt:60:1
+loop-less-2 : tie.Need-loop-less-2 Inv-loop μ-loop
+loop-less-2 c = omega (arith, c .before .before .before .before .before .before .before .before .before .before .before .before .before .before .before .before .before .before .loop-test .taken)
+
+loop-again-2 : tie.Need-loop-again-2 Inv-loop μ-loop
+loop-again-2 c = (omega (arith, c .before .before .before .before .before .before .before .before .before .before .before .before .before .before .before .before .before .before .before .loop .inv .0, c .before .before .before .before .before .before .before .before .before .before .before .before .receive .kept), omega (arith, c .before .before .before .before .before .before .before .before .before .before .before .before .before .before .before .before .before .before .before .loop .inv .1, c .before .before .before .before .before .before .before .before .before .before .before .before .receive .kept), omega (arith, c .before .before .before .before .before .before .before .before .before .before .before .before .before .before .before .before .before .before .before .loop .inv .2, c .before .before .before .before .before .before .before .before .before .before .before .before .receive .kept), omega (arith, c .before .before .before .before .before .before .before .before .before .before .before .before .before .before .before .before .before .before .before .loop .inv .3, c .before .before .before .before .before .before .before .before .before .before .before .before .receive .kept), omega (arith, c .before .before .before .before .before .before .before .before .before .before .before .before .before .before .before .before .before .before .before .loop .inv .4, c .before .before .before .before .before .before .before .before .before .before .before .before .receive .kept))
+
+same-length : tie.Need-same-length Inv-loop μ-loop
+same-length c = omega (arith, c .before .loop .inv .0)
+
+same-length-2 : tie.Need-same-length-2 Inv-loop μ-loop
+same-length-2 c = omega (arith, c .before .loop .inv .1)
+
+same-length-3 : tie.Need-same-length-3 Inv-loop μ-loop
+same-length-3 c = omega (arith, c .before .loop .inv .2)
+
+same-length-4 : tie.Need-same-length-4 Inv-loop μ-loop
+same-length-4 c = omega (arith, c .before .loop .inv .3)
+
 same-length-5 : tie.Need-same-length-5 Inv-loop μ-loop
-same-length-5 c = search needs
+same-length-5 c = omega (arith, c .before .loop .inv .4)
 
--- src/main.rt:60:1
-same-length-6 : tie.Need-same-length-6 Inv-loop μ-loop
-same-length-6 c = search needs
-
--- src/main.rt:60:1
-same-length-7 : tie.Need-same-length-7 Inv-loop μ-loop
-same-length-7 c = search needs
-
--- src/main.rt:60:1
-same-length-8 : tie.Need-same-length-8 Inv-loop μ-loop
-same-length-8 c = search needs
-
--- src/main.rt:60:1
-returns-2 : tie.Need-returns-2 Inv-loop μ-loop
-returns-2 c = search needs
+returns : tie.Need-returns Inv-loop μ-loop
+returns c = tt
 
 pub receive-all-spec : {M : Type 1} → statement M
 receive-all-spec =
@@ -80,15 +64,14 @@ receive-all-spec =
     μ-loop
     loop-holds
     receive-requires
+    sub-left
+    loop-less
+    loop-again
+    loop-less-2
+    loop-again-2
     same-length
     same-length-2
     same-length-3
     same-length-4
-    returns
-    loop-less
-    loop-again
     same-length-5
-    same-length-6
-    same-length-7
-    same-length-8
-    returns-2)
+    returns)

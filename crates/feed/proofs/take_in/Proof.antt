@@ -1,0 +1,71 @@
+-- `feed::take_in` meets its contract. The invariant: what has been fed so far. Each piece ends behind the one before it. Assumes nothing.
+use Prim.Native.Nat.{_-_}
+use native.Mathlib.Omega.{arith}
+use mathlib.Core.Path.{_≡_, refl}
+use lib.ListN.{length}
+use Rattle.tables.specs.Holding.{four}
+use Rattle.feed.specs.Feeding.{Feeds}
+use Rattle.feed.proofs.Feeding.{feeds-none, feeds-on}
+use borrow.Author.Needs.{needs}
+use Rattle.feed.proofs.take_in.Statement.{statement}
+use Rattle.feed.proofs.take_in.Tie as tie
+use Rattle.feed.proofs.take_in.Reads as reads
+use Rattle.feed.proofs.take_in.Lts as lts
+use Rattle.feed.proofs.take_one.Reads as take-one-reads
+
+abbrev Inv-loop : tie.InvT-loop
+Inv-loop heads₀ keys₀ marks₀ values₀ waiting₀ buf last state₀ cut₀ heads keys marks values waiting state cut =
+    ((length heads ≡ length heads₀) × (length keys ≡ length keys₀) × (length marks ≡ length marks₀) × (length values ≡ length values₀)
+    × (length waiting ≡ length waiting₀))
+    × Feeds (four heads₀ keys₀ marks₀ values₀) waiting₀ state₀ buf cut₀ last (four heads keys marks values) waiting state cut
+
+abbrev μ-loop : tie.MeasureT-loop
+μ-loop heads₀ keys₀ marks₀ values₀ waiting₀ buf last state₀ cut₀ heads keys marks values waiting state cut =
+    cut .to - cut .from
+
+loop-holds : tie.Need-loop-holds Inv-loop μ-loop
+loop-holds c = ((refl, refl, refl, refl, refl), feeds-none _ _ _ _ _ _ (c .before .before .before .before .before .before .pre))
+
+take-one-requires : tie.Need-take-one-requires Inv-loop μ-loop
+take-one-requires c κs = (c .before .before .before .before .before .loop .inv) .1 .holds
+
+same-length : tie.Need-same-length Inv-loop μ-loop
+same-length c = omega (arith, (c .before .before .before .before .before .before .before .before .before .before .before .before .before .before .before .before .before .before .before .loop .inv) .0 .0, c .before .before .before .before .before .before .before .before .before .before .before .before .before .take-one .kept)
+
+same-length-2 : tie.Need-same-length-2 Inv-loop μ-loop
+same-length-2 c = omega (arith, (c .before .before .before .before .before .before .before .before .before .before .before .before .before .before .before .before .before .before .before .loop .inv) .0 .1, c .before .before .before .before .before .before .before .before .before .before .before .before .before .take-one .kept)
+
+same-length-3 : tie.Need-same-length-3 Inv-loop μ-loop
+same-length-3 c = omega (arith, (c .before .before .before .before .before .before .before .before .before .before .before .before .before .before .before .before .before .before .before .loop .inv) .0 .2, c .before .before .before .before .before .before .before .before .before .before .before .before .before .take-one .kept)
+
+same-length-4 : tie.Need-same-length-4 Inv-loop μ-loop
+same-length-4 c = omega (arith, (c .before .before .before .before .before .before .before .before .before .before .before .before .before .before .before .before .before .before .before .loop .inv) .0 .3, c .before .before .before .before .before .before .before .before .before .before .before .before .before .take-one .kept)
+
+same-length-5 : tie.Need-same-length-5 Inv-loop μ-loop
+same-length-5 c = omega (arith, (c .before .before .before .before .before .before .before .before .before .before .before .before .before .before .before .before .before .before .before .loop .inv) .0 .4, c .before .before .before .before .before .before .before .before .before .before .before .before .before .take-one .kept)
+
+returns : tie.Need-returns Inv-loop μ-loop
+returns c = record { feeds = feeds-on ((c .before .before .before .before .before .before .before .before .before .before .before .before .before .before .before .before .before .before .before .loop .inv) .1) ((c .before .before .before .before .before .before .before .before .before .before .before .before .before .take-one .ensures) .feeds); rests = (c .before .before .before .before .before .before .before .before .before .before .before .before .before .take-one .ensures) .rests (c .if1 .taken) }
+
+loop-less : tie.Need-loop-less Inv-loop μ-loop
+loop-less c = omega (arith, (c .before .before .before .before .before .before .before .before .before .before .before .before .before .take-one .ensures) .onward (c .if1 .left), (c .before .before .before .before .before .before .before .before .before .before .before .before .before .take-one .ensures) .feeds .same, (c .before .before .before .before .before .before .before .before .before .before .before .before .before .take-one .ensures) .feeds .holds .low)
+
+loop-again : tie.Need-loop-again Inv-loop μ-loop
+loop-again c = ((omega (arith, (c .before .before .before .before .before .before .before .before .before .before .before .before .before .before .before .before .before .before .before .loop .inv) .0 .0, c .before .before .before .before .before .before .before .before .before .before .before .before .before .take-one .kept), omega (arith, (c .before .before .before .before .before .before .before .before .before .before .before .before .before .before .before .before .before .before .before .loop .inv) .0 .1, c .before .before .before .before .before .before .before .before .before .before .before .before .before .take-one .kept), omega (arith, (c .before .before .before .before .before .before .before .before .before .before .before .before .before .before .before .before .before .before .before .loop .inv) .0 .2, c .before .before .before .before .before .before .before .before .before .before .before .before .before .take-one .kept), omega (arith, (c .before .before .before .before .before .before .before .before .before .before .before .before .before .before .before .before .before .before .before .loop .inv) .0 .3, c .before .before .before .before .before .before .before .before .before .before .before .before .before .take-one .kept), omega (arith, (c .before .before .before .before .before .before .before .before .before .before .before .before .before .before .before .before .before .before .before .loop .inv) .0 .4, c .before .before .before .before .before .before .before .before .before .before .before .before .before .take-one .kept)), feeds-on ((c .before .before .before .before .before .before .before .before .before .before .before .before .before .before .before .before .before .before .before .loop .inv) .1) ((c .before .before .before .before .before .before .before .before .before .before .before .before .before .take-one .ensures) .feeds))
+
+pub take-in-spec : {M : Type 1} → statement M
+take-in-spec =
+    tie.close
+    (tie.spec
+    Inv-loop
+    μ-loop
+    loop-holds
+    take-one-requires
+    same-length
+    same-length-2
+    same-length-3
+    same-length-4
+    same-length-5
+    returns
+    loop-less
+    loop-again)

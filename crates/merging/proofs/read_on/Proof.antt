@@ -1,0 +1,97 @@
+-- `merging::read_on` meets its contract: the bytes that come stand behind those that are held. Assumes nothing.
+use native.Mathlib.Omega.{arith}
+use borrow.Author.Needs.{needs}
+use Rattle.merging.proofs.read_on.Statement.{statement}
+use Rattle.merging.proofs.read_on.Tie as tie
+use Rattle.merging.proofs.read_on.Reads as reads
+use Rattle.merging.proofs.read_on.Lts as lts
+use Rattle.io.proofs.count.Reads as count-reads
+use Rattle.libc.proofs.read.Reads as read-reads
+use Rattle.os.proofs.errno.Reads as errno-reads
+use Rattle.os.proofs.fail.Reads as fail-reads
+use Rattle.stream.proofs.make_room.Reads as make-room-reads
+
+make-room-requires : tie.Need-make-room-requires
+make-room-requires c κs = search needs
+
+sub-read : tie.Need-sub-read
+sub-read c = search needs
+
+part-read-start : tie.Need-part-read-start
+part-read-start c = search needs
+
+part-read-end : tie.Need-part-read-end
+part-read-end c = search needs
+
+read-requires : tie.Need-read-requires
+read-requires c κs = search needs
+
+errno-requires : tie.Need-errno-requires
+errno-requires c κs = search needs
+
+slice-aggregate-fail : tie.Need-slice-aggregate-fail
+slice-aggregate-fail c = search needs
+
+fail-requires : tie.Need-fail-requires
+fail-requires c κs = search needs
+
+same-length : tie.Need-same-length
+same-length c = search needs
+
+returns : tie.Need-returns
+returns c = search needs
+
+same-length-2 : tie.Need-same-length-2
+same-length-2 c = search needs
+
+returns-2 : tie.Need-returns-2
+returns-2 c = search needs
+
+sub-count : tie.Need-sub-count
+sub-count c = search needs
+
+part-count-start : tie.Need-part-count-start
+part-count-start c = search needs
+
+part-count-end : tie.Need-part-count-end
+part-count-end c = search needs
+
+count-requires : tie.Need-count-requires
+count-requires c κs = search needs
+
+add-t13 : tie.Need-add-t13
+add-t13 c = search needs
+
+same-length-3 : tie.Need-same-length-3
+same-length-3 c = search needs
+
+returns-3 : tie.Need-returns-3
+returns-3 c = record {
+  low = omega (arith, c .before .before .before .before .before .before .before .before .before .before .make-room .ensures .holds .low);
+  high = omega (arith, c .before .before .before .before .before .before .before .before .before .before .make-room .ensures .holds .high, c .count .ensures);
+  begun = λ e. omega (arith, c .before .before .before .before .before .before .before .before .before .before .make-room .ensures .holds .begun e);
+}
+
+pub read-on-spec : {M : Type 1} → statement M
+read-on-spec =
+    tie.close
+    (tie.spec
+    make-room-requires
+    sub-read
+    part-read-start
+    part-read-end
+    read-requires
+    errno-requires
+    slice-aggregate-fail
+    fail-requires
+    same-length
+    returns
+    same-length-2
+    returns-2
+    sub-count
+    part-count-start
+    part-count-end
+    count-requires
+    add-t13
+    same-length-3
+    returns-3)
