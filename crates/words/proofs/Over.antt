@@ -142,6 +142,15 @@ module _ {A : Type 0} where
       let e : to + length Y ≡ live = simp (length-append, length-replicate) (omega arith) in
       rw e (simp append-assoc)
 
+  -- nothing taken out
+  pub closed-none : (z : A) (live from : ℕ) (t : List A) → from ≤ live → live ≤ length t → closed z live from from t ≡ t
+  unfolding run
+  closed-none z live from t h k =
+      let e : from - from ≡ 0 = omega arith in
+      let f : from + (live - from) ≡ live = omega arith in
+      let d : drop live t ≡ drop (live - from) (drop from t) = sym (drop-drop (live - from) from t ∙ rw f) in
+      closed-is z live from from t (omega arith) h k ∙ rw (e, d, take-append-drop (live - from) (drop from t)) (take-append-drop from t)
+
   -- fewer words laid over those from `to` up to `from`, then the rest closed up to them
   pub keep-close : (z : A) (live from to : ℕ) (new t : List A) → to + length new ≤ from → from ≤ live → live ≤ length t
       → closed z live from (to + length new) (overAt to new t) ≡ shrunk z live from to new t
