@@ -1,14 +1,14 @@
 -- The laws of `run` and `overAt`, on lists of any element type, and of what is made of them: opened then written is inserted; kept then closed is shrunk.
 -- Assumes nothing.
 use Prim.Native.Nat.{ℕ, _+_, _-_, _≤_, _<_}
-use mathlib.Core.Path.{_≡_, refl, sym, _∙_}
+use mathlib.Core.Path.{_≡_, refl, sym, ap, _∙_}
 use mathlib.Core.List.{List, [], _∷_, _++_, append-assoc}
 use native.Mathlib.Numerals.{add-one}
 use native.Mathlib.Nat.{add-zero}
 use native.Mathlib.Omega.{arith}
 use lib.ListN.{length, take, drop, getD, set, replicate, length-append, length-take, length-drop, length-replicate, take-append-drop, List·getD-append}
 use lib.Seq.{drop-cons, length-take-le, take-at, drop-at, take-append-le, take-take, drop-drop, take-add, getD-take, getD-drop}
-use lib.Seq.{drop-append-add, set-split}
+use lib.Seq.{drop-append-add, getD-append-add, set-split}
 use Rattle.words.specs.Words.{run, overAt, opened, closed, inserted, shrunk}
 
 module _ {A : Type 0} where
@@ -80,6 +80,14 @@ module _ {A : Type 0} where
     over-below j z q =
         let l = front in
         List·getD-append (take a t) (X ++ drop (a + length X) t) z j (omega arith) ∙ getD-take a t j z q
+
+    pub over-at : (i : ℕ) (z : A) → i < length X → getD (overAt a X t) (a + i) z ≡ getD X i z
+    unfolding overAt
+    over-at i z q =
+        let l = front in
+        let e : a + i ≡ length (take a t) + i = omega arith in
+        ap (λ (j : ℕ). getD (take a t ++ (X ++ drop (a + length X) t)) j z) e
+        ∙ (getD-append-add (take a t) (X ++ drop (a + length X) t) i z ∙ List·getD-append X (drop (a + length X) t) z i q)
 
     -- more words behind those laid over
     pub over-then : (Y : List A) → overAt (a + length X) Y (overAt a X t) ≡ overAt a (X ++ Y) t
