@@ -4,3 +4,4 @@ pub mod Rows
 pub mod Flat
 pub mod Tables
 pub mod Padded
+pub mod Gap

@@ -1,14 +1,14 @@
 -- The laws of `run` and `overAt`, on lists of any element type, and of what is made of them: opened then written is inserted; kept then closed is shrunk.
 -- Assumes nothing.
 use Prim.Native.Nat.{ℕ, _+_, _-_, _≤_, _<_}
-use mathlib.Core.Path.{_≡_, refl, sym, _∙_}
+use mathlib.Core.Path.{_≡_, refl, sym, ap, _∙_}
 use mathlib.Core.List.{List, [], _∷_, _++_, append-assoc}
 use native.Mathlib.Numerals.{add-one}
 use native.Mathlib.Nat.{add-zero}
 use native.Mathlib.Omega.{arith}
 use lib.ListN.{length, take, drop, getD, set, replicate, length-append, length-take, length-drop, length-replicate, take-append-drop, List·getD-append}
 use lib.Seq.{drop-cons, length-take-le, take-at, drop-at, take-append-le, take-take, drop-drop, take-add, getD-take, getD-drop}
-use lib.Seq.{drop-append-add, set-split}
+use lib.Seq.{drop-append-add, getD-append-add, set-split}
 use Rattle.words.specs.Words.{run, overAt, opened, closed, inserted, shrunk}
 
 module _ {A : Type 0} where
@@ -81,6 +81,14 @@ module _ {A : Type 0} where
         let l = front in
         List·getD-append (take a t) (X ++ drop (a + length X) t) z j (omega arith) ∙ getD-take a t j z q
 
+    pub over-at : (i : ℕ) (z : A) → i < length X → getD (overAt a X t) (a + i) z ≡ getD X i z
+    unfolding overAt
+    over-at i z q =
+        let l = front in
+        let e : a + i ≡ length (take a t) + i = omega arith in
+        ap (λ (j : ℕ). getD (take a t ++ (X ++ drop (a + length X) t)) j z) e
+        ∙ (getD-append-add (take a t) (X ++ drop (a + length X) t) i z ∙ List·getD-append X (drop (a + length X) t) z i q)
+
     -- more words behind those laid over
     pub over-then : (Y : List A) → overAt (a + length X) Y (overAt a X t) ≡ overAt a (X ++ Y) t
     unfolding overAt
@@ -141,6 +149,15 @@ module _ {A : Type 0} where
       let Y : List A = run from (live - from) t ++ replicate (from - to) z in
       let e : to + length Y ≡ live = simp (length-append, length-replicate) (omega arith) in
       rw e (simp append-assoc)
+
+  -- nothing taken out
+  pub closed-none : (z : A) (live from : ℕ) (t : List A) → from ≤ live → live ≤ length t → closed z live from from t ≡ t
+  unfolding run
+  closed-none z live from t h k =
+      let e : from - from ≡ 0 = omega arith in
+      let f : from + (live - from) ≡ live = omega arith in
+      let d : drop live t ≡ drop (live - from) (drop from t) = sym (drop-drop (live - from) from t ∙ rw f) in
+      closed-is z live from from t (omega arith) h k ∙ rw (e, d, take-append-drop (live - from) (drop from t)) (take-append-drop from t)
 
   -- fewer words laid over those from `to` up to `from`, then the rest closed up to them
   pub keep-close : (z : A) (live from to : ℕ) (new t : List A) → to + length new ≤ from → from ≤ live → live ≤ length t

@@ -51,11 +51,14 @@ pub fn blank(t: &mut [u64], from: usize, n: usize)
     }
 }
 
-// Moves the words from `from` up to `live` down to `to`, and sets the words that this frees to 0.
+// Moves the words from `from` up to `live` down to `to`, and sets the words that this frees to 0. If none is freed, nothing is moved.
 pub fn close(t: &mut [u64], live: usize, from: usize, to: usize)
     requires { ⌜ (to ≤ from) × (from ≤ live) × (live ≤ length (now t)) ⌝ }
     ensures { λ _. ⌜ now (t .exit) ≡ closed 0 live from to (now (t .entry)) ⌝ }
 {
+    if to == from {
+        return;
+    }
     let n = live - from;
     lower(t, from, n, to);
     blank(t, to + n, from - to);

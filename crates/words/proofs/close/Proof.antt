@@ -1,8 +1,18 @@
--- `words::close` meets its contract: lowered, then blanked. Assumes nothing.
+-- `words::close` meets its contract: lowered, then blanked; nothing is done if nothing is freed. Assumes nothing.
+use Prim.Native.Nat.{ℕ}
+use mathlib.Core.Path.{sym, ap, _∙_}
 use borrow.Author.Needs.{needs}
+use Rattle.words.specs.Words.{closed}
+use Rattle.words.proofs.Over.{closed-none}
 use Rattle.words.proofs.Moves.{lower-blank}
 use Rattle.words.proofs.close.Statement.{statement}
 use Rattle.words.proofs.close.Tie as tie
+
+returns : tie.Need-returns
+returns c =
+    let a = c .before .before .args in
+    let p = c .before .before .pre in
+    sym (ap (λ (to : ℕ). closed 0 (a .live) (a .from) to (a .t .now)) (c .if1 .taken) ∙ closed-none 0 (a .live) (a .from) (a .t .now) (p .1) (p .2))
 
 sub-n : tie.Need-sub-n
 sub-n c = search needs
@@ -22,13 +32,14 @@ blank-requires c κs = search needs
 same-length : tie.Need-same-length
 same-length c = search needs
 
-returns : tie.Need-returns
-returns c =
-    let a = c .before .before .before .before .before .before .before .before .before in
-    lower-blank (a .args .live) (a .args .from) (a .args .to) (a .args .t .now) (c .before .before .before .before .before .before .lower .last .0) (c .before .before .blank .last .0) (a .pre .0) (a .pre .1) (a .pre .2)
+returns-2 : tie.Need-returns-2
+returns-2 c =
+    let a = c .before .before .before .before .before .before .before .before .before .before .args in
+    let p = c .before .before .before .before .before .before .before .before .before .before .pre in
+    lower-blank (a .live) (a .from) (a .to) (a .t .now) (c .before .before .before .before .before .before .lower .last .0) (c .before .before .blank .last .0) (p .0) (p .1) (p .2)
     (c .before .before .before .before .before .before .lower .ensures) (c .before .before .blank .ensures)
 
 pub close-spec : {M : Type 1} → statement M
 close-spec =
     tie.close
-    (tie.spec sub-n lower-requires add-blank sub-blank blank-requires same-length returns)
+    (tie.spec returns sub-n lower-requires add-blank sub-blank blank-requires same-length returns-2)
