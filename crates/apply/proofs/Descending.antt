@@ -25,9 +25,11 @@ use Rattle.tables.specs.declared.Counts.{Counts}
 use Rattle.tables.specs.declared.Stop.{Stop}
 use Rattle.apply.specs.Reach.{blockAt, changing}
 use Rattle.apply.specs.Going.{words-long, words-none, inserts-only, goes-on, third-word, Goes, goes}
-use Rattle.apply.specs.Doing.{isInsert, mayMake, insertsHere, wantOf, Spare, Does, Passes, Arrives, Stays, Leads}
+use Rattle.words.specs.Gap.{Gap, Leaves}
+use Rattle.apply.specs.Doing.{isInsert, isDelete, marksBy, withMarks, mayMake, insertsHere, wantOf, Spare, Does, Passes, Arrives, Stays, Leads}
 use Rattle.apply.specs.Doing.{Finishes, Enters, Inserts, Descends}
 use Rattle.apply.specs.declared.Act.{Act}
+use Rattle.apply.proofs.Gaps.{marks-all, marks-most, mark-further, mark-next, leaves-still}
 use Rattle.apply.specs.declared.Child.{Child}
 
 empty-list : (xs : List ℕ) → length xs ≡ 0 → xs ≡ []
@@ -47,14 +49,21 @@ prev-long head = refl
 prev-long (after e) = refl
 
 module _ (o : Act) (n : ℕ) (ks : List ℕ) (from : Stop) (c : Counts) (T : Tables) where
+  -- nothing is put in
+  stays : (A B : List Row) (w : Way) → Holds T c (A ++ B) → from ≡ behind A → Spare c (steps w) (n - 1 + steps w) 1 → (P : List ℕ → Type 0)
+      → P (T .marks) → Leaves (marksBy (o .deed) (n - 1)) (from .mark) (c .marks) (T .marks) P
+  stays A B w H b s P x =
+      leaves-still (marksBy (o .deed) (n - 1)) from T c A B P H b (omega (arith, marks-most (o .deed) (n - 1), s .marks-spare)) x
+
   -- the way has no more keys
-  pub descend-ends : length ks < 3 → Descends o n ks from c T c T
+  pub descend-ends : length ks < 3 → Descends o n ks from c T c (c .marks) T
   unfolding underRows
-  descend-ends l A B w H b e v d x y f s =
-      words-none w (omega (arith, ap length e))
+  descend-ends l A B w H b e v d x y f some s =
+      stays A B w H b s _
+      (words-none w (omega (arith, ap length e))
       (λ w. Does T c c (steps w) (steps w) 1 (A ++ underRows (o .id) (o .deps .at) n w B))
       (λ a. record { holds = H; rows-more = omega arith; marks-more = omega arith; values-more = omega arith })
-      (record { holds = H; rows-more = omega arith; marks-more = omega arith; values-more = omega arith })
+      (record { holds = H; rows-more = omega arith; marks-more = omega arith; values-more = omega arith }))
 
   none-left : (w : Way) → steps w ≤ 0 → length (wayWords w) < 3
   unfolding steps wayWords
@@ -65,9 +74,9 @@ module _ (o : Act) (n : ℕ) (ks : List ℕ) (from : Stop) (c : Counts) (T : Tab
   none-left (intoList e w) s = absurd (omega arith)
 
   -- no place is deeper than eight
-  pub descend-deep : 8 < n → Descends o n ks from c T c T
-  descend-deep l A B w H b e v d x y f s =
-      descend-ends (omega (arith, ap length e, none-left w (omega (arith, y)))) A B w H b e v d x y f s
+  pub descend-deep : 8 < n → Descends o n ks from c T c (c .marks) T
+  descend-deep l A B w H b e v d x y f some s =
+      descend-ends (omega (arith, ap length e, none-left w (omega (arith, y)))) A B w H b e v d x y f some s
 
   first-words : (hi len : ℕ) (p : Prev) → ks ≡ prevWords p → hi ≡ getD ks 0 0 → len ≡ getD ks 2 0 → hi ∷ 0 ∷ len ∷ [] ≡ prevWords p
   unfolding prevWords
@@ -75,25 +84,28 @@ module _ (o : Act) (n : ℕ) (ks : List ℕ) (from : Stop) (c : Counts) (T : Tab
   first-words hi len (after e) q x z = rw (x, z, q)
 
   -- a way has three words for each key
-  pub descend-odd : (e : Counts) (U : Tables) → 3 < length ks → length ks < 6 → Descends o n ks from c T e U
+  pub descend-odd : (e : Counts) (p′ : ℕ) (U : Tables) → 3 < length ks → length ks < 6 → Descends o n ks from c T e p′ U
   unfolding wayWords
-  descend-odd e U l m A B (assign a) H b q = absurd (omega (arith, l, ap length q))
-  descend-odd e U l m A B delete H b q = absurd (omega (arith, l, ap length q))
-  descend-odd e U l m A B (insert p a) H b q = absurd (omega (arith, l, ap length q, prev-long p))
-  descend-odd e U l m A B (intoMap k w) H b q =
+  descend-odd e p′ U l m A B (assign a) H b q = absurd (omega (arith, l, ap length q))
+  descend-odd e p′ U l m A B delete H b q = absurd (omega (arith, l, ap length q))
+  descend-odd e p′ U l m A B (insert p a) H b q = absurd (omega (arith, l, ap length q, prev-long p))
+  descend-odd e p′ U l m A B (intoMap k w) H b q =
       absurd (omega (arith, l, m, ap length q, words-long w (goes-on w (omega (arith, l, ap length q)))))
-  descend-odd e U l m A B (intoList j w) H b q =
+  descend-odd e p′ U l m A B (intoList j w) H b q =
       absurd (omega (arith, l, m, ap length q, words-long w (goes-on w (omega (arith, l, ap length q)))))
 
   -- the last key is the predecessor of a new element
-  pub descend-inserts : (hi len : ℕ) (e : Counts) (U : Tables) → insertsHere (length ks) (o .deed) ≡ true → hi ≡ getD ks 0 0
-      → len ≡ getD ks 2 0 → n ≤ 8 → Inserts o n hi len from c T e U → Descends o n ks from c T e U
+  pub descend-inserts : (hi len : ℕ) (e : Counts) (p′ : ℕ) (U : Tables) → insertsHere (length ks) (o .deed) ≡ true → hi ≡ getD ks 0 0
+      → len ≡ getD ks 2 0 → n ≤ 8 → Inserts o n hi len from c T e p′ U → Descends o n ks from c T e p′ U
   unfolding underRows wayWords deedOf deedWords steps
-  descend-inserts hi len e U t x z l I A B w H b q v d ws y f s =
+  descend-inserts hi len e p′ U t x z l I A B w H b q v d ws y f some s =
       inserts-only w (rw (q, d) at t)
-      (λ w. ks ≡ wayWords w → ValidWay w → o .deed ≡ deedOf w → o .words ≡ deedWords w → Spare c (steps w) (steps w) 1
-      → Does U c e (steps w) (steps w) 1 (A ++ underRows (o .id) (o .deps .at) n w B))
-      (λ p a q v d ws s. I A B p a H b (first-words hi len p q x z) (v .1) d ws l f s)
+      (λ w. ks ≡ wayWords w → ValidWay w → o .deed ≡ deedOf w → o .words ≡ deedWords w → Spare c (steps w) (n - 1 + steps w) 1
+      → Leaves (marksBy (o .deed) (n - 1)) (from .mark) p′ (U .marks) (λ t. Does (withMarks U t) c e (steps w) (steps w) 1
+      (A ++ underRows (o .id) (o .deps .at) n w B)))
+      (λ p a q v d ws s. rw (marks-all (o .deed) (n - 1) (ap isDelete d))
+      (I A B p a H b (first-words hi len p q x z) (v .1) d ws l f some
+      (record { rows-spare = s .rows-spare; marks-spare = omega (arith, some, s .marks-spare); values-spare = s .values-spare })))
       q v d ws s
 
 -- The row of the first key.
@@ -106,24 +118,24 @@ module _ (o : Act) (n : ℕ) (ks : List ℕ) (from : Stop) (c : Counts) (h k m v
   going w e d v = goes (o .id) (o .deps .at) n hi lo len left ks (o .deed) w e d v long here first second third behind-it
 
   -- it isn't there
-  pub descend-stays : x .there ≡ false → Descends o n ks from c (four h k m v) c (four h₁ k₁ m v)
+  pub descend-stays : x .there ≡ false → Descends o n ks from c (four h k m v) c (c .marks) (four h₁ k₁ m v)
   unfolding wantOf
-  descend-stays t A B w H b e val d ws y f s =
+  descend-stays t A B w H b e val d ws y f some s =
       let g = going w e d val in
       let p = g .one-more in
       let S = no _ _ (x .there) t (L m v A B (g .pass) (g .meant) (g .spot) H b (g .agrees) (g .tells)
       (g .making c (omega (arith, s .rows-spare)) shallow)) in
       let q : A ++ B ≡ A ++ underRows (o .id) (o .deps .at) n w B = ap (A ++_) (sym (g .change B ∙ S .nothing _)) in
-      record {
+      stays o n ks from c (four h k m v) A B w H b s _ (record {
         holds = subst (Holds (four h₁ k₁ m v) c) q (rw (S .heads, S .keys) H);
         rows-more = omega arith;
         marks-more = omega arith;
         values-more = omega arith;
-      }
+      })
 
   module _ (t : x .there ≡ true) (A B : List Row) (w : Way) (H : Holds (four h k m v) c (A ++ B)) (b : from ≡ behind A)
       (e : ks ≡ wayWords w) (val : ValidWay w) (d : o .deed ≡ deedOf w) (y : n + steps w ≤ 9) (f : Fresh (o .id) B)
-      (s : Spare c (steps w) (steps w) 1) where
+      (s : Spare c (steps w) (n - 1 + steps w) 1) where
     g : Goes (o .id) (o .deps .at) n hi lo len left (o .deed) w
     g = going w e d val
 
@@ -152,26 +164,33 @@ module _ (o : Act) (n : ℕ) (ks : List ℕ) (from : Stop) (c : Counts) (h k m v
     fresh = arrives .fresh (o .id) f
 
   -- the way ends there
-  pub descend-finishes : (e : Counts) (h₂ m₂ v₂ : List ℕ) → x .there ≡ true → length ks ≡ 3
-      → Finishes o (x .at) (x .counts) h₁ m v e h₂ m₂ v₂ → Descends o n ks from c (four h k m v) e (four h₂ k₁ m₂ v₂)
-  descend-finishes e h₂ m₂ v₂ t l F A B w H b q val d ws y f s =
+  pub descend-finishes : (e : Counts) (p′ : ℕ) (h₂ m₂ v₂ : List ℕ) → x .there ≡ true → length ks ≡ 3
+      → Finishes o n (x .at) (x .counts) h₁ m v e p′ h₂ m₂ v₂ → Descends o n ks from c (four h k m v) e p′ (four h₂ k₁ m₂ v₂)
+  descend-finishes e p′ h₂ m₂ v₂ t l F A B w H b q val d ws y f some s =
       let G = g t A B w H b q val d y f s in
       let a = arrives t A B w H b q val d y f s in
       let p = G .one-more in
       let z : length (wayWords (G .next)) ≡ 0 = omega (arith, l, ap length q, ap length (G .words)) in
-      let D = F k₁ (A ++ a .before) (a .beyond) (a .row) (G .next) (held t A B w H b q val d y f s) (a .at) (empty-list _ z) (G .valid)
+      let L = F k₁ (A ++ a .before) (a .beyond) (a .row) (G .next) (held t A B w H b q val d y f s) (a .at) (empty-list _ z) (G .valid)
       (d ∙ G .deed-same) (ws ∙ G .value-same)
-      (fresh t A B w H b q val d y f s .0, fresh t A B w H b q val d y f s .1, tt)
+      (fresh t A B w H b q val d y f s .0, fresh t A B w H b q val d y f s .1, tt) some
       (record {
         rows-spare = omega (arith, a .rows-more, s .rows-spare);
         marks-spare = omega (arith, a .marks-same, s .marks-spare);
         values-spare = omega (arith, a .values-same, s .values-spare);
       }) in
+      let D = L .is in
       record {
-        holds = landed t A B w H b q val d y f s _ e (a .row) (a .before) (a .beyond) (a .reached .leads) (rw (a .reached .deep) at (D .holds));
-        rows-more = omega (arith, D .rows-more, a .rows-more);
-        marks-more = omega (arith, D .marks-more, a .marks-same);
-        values-more = omega (arith, D .values-more, a .values-same);
+        table = L .table;
+        gap = L .gap;
+        before = omega (arith, L .before, mark-further from (x .at) A (a .before) b (a .at));
+        is = record {
+          holds = landed t A B w H b q val d y f s _ e (a .row) (a .before) (a .beyond) (a .reached .leads)
+              (rw (a .reached .deep) at (D .holds));
+          rows-more = omega (arith, D .rows-more, a .rows-more);
+          marks-more = omega (arith, D .marks-more, a .marks-same);
+          values-more = omega (arith, D .values-more, a .values-same);
+        };
       }
 
   -- the way goes on from there
@@ -186,11 +205,11 @@ module _ (o : Act) (n : ℕ) (ks : List ℕ) (from : Stop) (c : Counts) (h k m v
       ∙ rows-within n X (shallow-rest n R) (o .id) (o .deps .at) w us)
       ∙ ap (λ b. join b ++ X) (sym (run-under (o .id) (o .deps .at) n w (blockAt n r R) g)))
 
-  pub descend-goes : (p : Stop) (e₁ e : Counts) (h₂ k₂ m₂ v₂ h₃ m₃ ks′ : List ℕ) (list : Bool) → x .there ≡ true → 6 ≤ length ks
-      → ks′ ≡ drop 3 ks → list ≡ ltb 16 (getD ks 5 0) → Passes h₁ (x .at) p
-      → Descends o (n + 1) ks′ p (x .counts) (four h₁ k₁ m v) e₁ (four h₂ k₂ m₂ v₂)
-      → Enters o list (x .at) e₁ h₂ m₂ e h₃ m₃ → Descends o n ks from c (four h k m v) e (four h₃ k₂ m₃ v₂)
-  descend-goes p e₁ e h₂ k₂ m₂ v₂ h₃ m₃ ks′ list t l qk ql P D E A B w H b q val d ws y f s =
+  pub descend-goes : (p : Stop) (e₁ e : Counts) (p₁ p₂ : ℕ) (h₂ k₂ m₂ v₂ h₃ m₃ ks′ : List ℕ) (list : Bool) → x .there ≡ true
+      → 6 ≤ length ks → ks′ ≡ drop 3 ks → list ≡ ltb 16 (getD ks 5 0) → Passes h₁ (x .at) p
+      → Descends o (n + 1) ks′ p (x .counts) (four h₁ k₁ m v) e₁ p₁ (four h₂ k₂ m₂ v₂)
+      → Enters o list n (x .at) e₁ p₁ h₂ m₂ e p₂ h₃ m₃ → Descends o n ks from c (four h k m v) e p₂ (four h₃ k₂ m₃ v₂)
+  descend-goes p e₁ e p₁ p₂ h₂ k₂ m₂ v₂ h₃ m₃ ks′ list t l qk ql P D E A B w H b q val d ws y f some s =
       let G = g t A B w H b q val d y f s in
       let a = arrives t A B w H b q val d y f s in
       let fr = fresh t A B w H b q val d y f s in
@@ -201,25 +220,36 @@ module _ (o : Act) (n : ℕ) (ks : List ℕ) (from : Stop) (c : Counts) (h k m v
       let W = A ++ a .before in
       let r = a .row in
       let R = a .beyond in
-      let D₁ = D (W ++ r ∷ []) R (G .next) (subst (Holds (four h₁ k₁ m v) (x .counts)) (sym (append-assoc W (r ∷ []) R)) N)
-      (P k₁ m v (x .counts) W R r N (a .at)) (qk ∙ ap (drop 3) words) (G .valid) (d ∙ G .deed-same) (ws ∙ G .value-same)
-      (omega (arith, y)) (fr .2) (record {
+      let next = P k₁ m v (x .counts) W R r N (a .at) in
+      let L₁ = D (W ++ r ∷ []) R (G .next) (subst (Holds (four h₁ k₁ m v) (x .counts)) (sym (append-assoc W (r ∷ []) R)) N)
+      next (qk ∙ ap (drop 3) words) (G .valid) (d ∙ G .deed-same) (ws ∙ G .value-same)
+      (omega (arith, y)) (fr .2) (omega arith) (record {
         rows-spare = omega (arith, a .rows-more, s .rows-spare);
-        marks-spare = omega (arith, a .marks-same, s .marks-spare);
+        marks-spare = omega (arith, some, a .marks-same, s .marks-spare);
         values-spare = omega (arith, a .values-same, s .values-spare);
       }) in
+      let D₁ = L₁ .is in
+      let t₁ = L₁ .table in
+      let u : n + 1 - 1 ≡ n = omega arith in
       let U = underRows (o .id) (o .deps .at) (n + 1) (G .next) R in
-      let N₂ = subst (Holds (four h₂ k₂ m₂ v₂) e₁) (append-assoc W (r ∷ []) U) (D₁ .holds) in
+      let N₂ = subst (Holds (four h₂ k₂ t₁ v₂) e₁) (append-assoc W (r ∷ []) U) (D₁ .holds) in
       let o₁ : list ≡ ofList (G .next) = ql ∙ (ap (λ l. ltb 16 (getD l 5 0)) words ∙ third-word (G .next) on (G .valid)) in
-      let E₁ = E k₂ v₂ W U r (G .next) N₂ (a .at) o₁ (d ∙ G .deed-same) (fr .0, fr .1, tt) (record {
+      let L₂ = E k₂ t₁ v₂ W U r (G .next) (subst (λ i. Gap (marksBy (o .deed) i) p₁ m₂ t₁) u (L₁ .gap)) N₂ (a .at) o₁ (d ∙ G .deed-same)
+      (fr .0, fr .1, tt) (record {
         rows-spare = omega (arith, D₁ .rows-more, a .rows-more, s .rows-spare);
         marks-spare = omega (arith, D₁ .marks-more, a .marks-same, s .marks-spare);
         values-spare = omega (arith, D₁ .values-more, a .values-same, s .values-spare);
-      }) in
+      }) some (omega (arith, L₁ .before, mark-next (x .at) p W r (a .at) next)) in
+      let E₁ = L₂ .is in
       record {
-        holds = landed t A B w H b q val d y f s _ e r (a .before) R (a .reached .leads)
-            (subst (λ X. Holds (four h₃ k₂ m₃ v₂) e (W ++ X)) (entered (G .next) r R on) (E₁ .holds));
-        rows-more = omega (arith, E₁ .rows-more, D₁ .rows-more, a .rows-more);
-        marks-more = omega (arith, E₁ .marks-more, D₁ .marks-more, a .marks-same);
-        values-more = omega (arith, E₁ .values-more, D₁ .values-more, a .values-same);
+        table = L₂ .table;
+        gap = L₂ .gap;
+        before = omega (arith, L₂ .before, mark-further from (x .at) A (a .before) b (a .at));
+        is = record {
+          holds = landed t A B w H b q val d y f s _ e r (a .before) R (a .reached .leads)
+              (subst (λ X. Holds (four h₃ k₂ (L₂ .table) v₂) e (W ++ X)) (entered (G .next) r R on) (E₁ .holds));
+          rows-more = omega (arith, E₁ .rows-more, D₁ .rows-more, a .rows-more);
+          marks-more = omega (arith, E₁ .marks-more, D₁ .marks-more, a .marks-same);
+          values-more = omega (arith, E₁ .values-more, D₁ .values-more, a .values-same);
+        };
       }

@@ -1,6 +1,6 @@
 -- A place that the way goes on from, and the seat of a new element, in tables that hold rows.
 -- Assumes nothing.
-use Prim.Native.Nat.{ℕ, suc, _+_, _≤_, _<_}
+use Prim.Native.Nat.{ℕ, suc, _+_, _-_, _≤_, _<_}
 use native.Mathlib.Omega.{arith}
 use mathlib.Core.Path.{_≡_, refl, sym, ap, _∙_, subst}
 use mathlib.Core.Bool.{Bool, true, false, cond, not, true≢false, false≢true}
@@ -25,6 +25,7 @@ use Rattle.tables.specs.declared.Counts.{Counts}
 use Rattle.tables.specs.declared.Stop.{Stop}
 use Rattle.steps.specs.Steps.{Flags, Marks}
 use Rattle.apply.specs.Doing.{isDelete, Spare, Does, Enters}
+use Rattle.apply.proofs.Gaps.{marks-none, marks-all}
 use Rattle.apply.specs.declared.Act.{Act}
 
 -- a deed deletes where its way does
@@ -93,25 +94,37 @@ pub flag-values : (b : Bool) (r : Row) → length (flagRow b r .values) ≡ leng
 flag-values true r = refl
 flag-values false r = refl
 
-module _ (o : Act) (list : Bool) (s : Stop) (c : Counts) (h m : List ℕ) where
+module _ (o : Act) (list : Bool) (n : ℕ) (s : Stop) (c : Counts) (p : ℕ) (h m : List ℕ) where
   -- a delete leaves no mark
-  pub enter-deleting : (h′ : List ℕ) → isDelete (o .deed) ≡ true → Flags list (s .row) h h′ → Enters o list s c h m c h′ m
+  pub enter-deleting : (h′ : List ℕ) → isDelete (o .deed) ≡ true → Flags list (s .row) h h′ → Enters o list n s c p h m c p h′ m
   unfolding Flags
-  enter-deleting h′ t F k v A R r w H b l e f p =
-      let y : deletes w ≡ true = sym (deed-deletes w) ∙ (ap isDelete (sym e) ∙ t) in
+  enter-deleting h′ x F k t v A R r w G H b l e f sp some low =
+      let y : deletes w ≡ true = sym (deed-deletes w) ∙ (ap isDelete (sym e) ∙ x) in
       let q : flagRow list r ≡ enterRow (o .id) w r = rw (l, y) (flag-enter (ofList w) r) in
-      let N = F k m v c A R r H (at-behind s A b .row) in
-      subst (λ q. Does (four h′ k m v) c c 0 1 0 (A ++ q ∷ R)) q
-      (row-does _ _ c c A R r (flagRow list r) 1 0 H N (omega (arith, flag-marks list r)) (omega (arith, flag-values list r)))
+      let N = F k t v c A R r H (at-behind s A b .row) in
+      record {
+        table = t;
+        gap = rw (marks-none (o .deed) (n - 1) x) (rw (marks-none (o .deed) n x) at G);
+        before = omega (arith, low);
+        is = subst (λ q. Does (four h′ k t v) c c 0 1 0 (A ++ q ∷ R)) q
+            (row-does _ _ c c A R r (flagRow list r) 1 0 H N (omega (arith, flag-marks list r)) (omega (arith, flag-values list r)));
+      }
 
-  pub enter-marking : (e : Counts) (h₁ h′ m′ : List ℕ) → isDelete (o .deed) ≡ false → Marks s (o .id) c h m e h₁ m′
-      → Flags list (s .row) h₁ h′ → Enters o list s c h m e h′ m′
+  pub enter-marking : (e : Counts) (p′ : ℕ) (h₁ h′ m′ : List ℕ) → isDelete (o .deed) ≡ false → Marks s (o .id) c p n h m e p′ h₁ m′
+      → Flags list (s .row) h₁ h′ → Enters o list n s c p h m e p′ h′ m′
   unfolding Flags Marks
-  enter-marking e h₁ h′ m′ t M F k v A R r w H b l d f p =
-      let y : deletes w ≡ false = sym (deed-deletes w) ∙ (ap isDelete (sym d) ∙ t) in
+  enter-marking e p′ h₁ h′ m′ x M F k t v A R r w G H b l d f sp some low =
+      let y : deletes w ≡ false = sym (deed-deletes w) ∙ (ap isDelete (sym d) ∙ x) in
       let q : flagRow list (markRow (o .id) r) ≡ enterRow (o .id) w r = rw (l, y) (flag-enter (ofList w) (markRow (o .id) r)) in
       let a = at-behind s A b .row in
-      let N = F k m′ v e A R (markRow (o .id) r) (M k v A R r H b (f .0) (omega (arith, p .marks-spare))) a in
-      subst (λ q. Does (four h′ k m′ v) c e 0 1 0 (A ++ q ∷ R)) q
-      (row-does _ _ c e A R r (flagRow list (markRow (o .id) r)) 1 0 H N
-      (omega (arith, marked-more (o .id) r, flag-marks list (markRow (o .id) r))) (omega (arith, flag-values list (markRow (o .id) r))))
+      let L = M k t v A R r (rw (marks-all (o .deed) n x) at G) H b (f .0) (omega (arith, sp .marks-spare)) some low in
+      let t₁ = L .table in
+      let N = F k t₁ v e A R (markRow (o .id) r) (L .is) a in
+      record {
+        table = t₁;
+        gap = rw (marks-all (o .deed) (n - 1) x) (L .gap);
+        before = L .before;
+        is = subst (λ q. Does (four h′ k t₁ v) c e 0 1 0 (A ++ q ∷ R)) q
+            (row-does _ _ c e A R r (flagRow list (markRow (o .id) r)) 1 0 H N
+            (omega (arith, marked-more (o .id) r, flag-marks list (markRow (o .id) r))) (omega (arith, flag-values list (markRow (o .id) r))));
+      }

@@ -1,6 +1,6 @@
 -- What is done at the way's end, in tables that hold rows.
 -- Assumes nothing.
-use Prim.Native.Nat.{ℕ, suc, _+_, _≤_, _<_}
+use Prim.Native.Nat.{ℕ, suc, _+_, _-_, _≤_, _<_}
 use native.Mathlib.Omega.{arith}
 use mathlib.Core.Path.{_≡_, refl, sym, ap, _∙_, subst}
 use mathlib.Core.Bool.{Bool, true, false, true≢false}
@@ -35,6 +35,10 @@ use Rattle.clear.specs.Clear.{Clears}
 use Rattle.apply.specs.Reach.{blockAt}
 use Rattle.apply.specs.Doing.{isDelete, givenIn, branchOf, stringKind, kindOf, partsOf, Spare, Does, Gives, Finishes}
 use Rattle.apply.specs.declared.Act.{Act}
+use Rattle.words.specs.Gap.{Leaves}
+use Rattle.steps.proofs.Placed.{placed}
+use Rattle.steps.proofs.Marked.{holds-gap}
+use Rattle.apply.proofs.Gaps.{marks-none, marks-all, leaves-still}
 use Rattle.apply.proofs.Entering.{block-does, row-does, marked-more, flag-marks, flag-values}
 
 -- What was read of a value, as the tables hold it.
@@ -65,61 +69,75 @@ held-plain (integer (pos n)) h = refl
 held-plain (integer (negsuc n)) h = refl
 held-plain (string b) h = rw (le-ltb 32 (length b) (h .short))
 
-module _ (i : ℕ) (d : List ℕ) (g : Given) (ws : List ℕ) (s : Stop) (c : Counts) (h m v : List ℕ) where
+module _ (i : ℕ) (d : List ℕ) (g : Given) (ws : List ℕ) (n : ℕ) (s : Stop) (c : Counts) (h m v : List ℕ) where
   -- a plain value
-  pub give-plain : (a b e : Counts) (h₁ h₂ h′ m′ v₁ v′ : List ℕ) (kind : ℕ) (parts : List ℕ) → branchOf g ≡ 0 → kind ≡ kindOf g
-      → parts ≡ partsOf g ws → Marks s i c h m a h₁ m′ → Drops s d a h₁ v b h₂ v₁ → Adds s i (kind ∷ parts) b h₂ v₁ e h′ v′
-      → Gives i d g ws s c h m v e h′ m′ v′
+  pub give-plain : (a b e : Counts) (p′ : ℕ) (h₁ h₂ h′ m′ v₁ v′ : List ℕ) (kind : ℕ) (parts : List ℕ) → branchOf g ≡ 0 → kind ≡ kindOf g
+      → parts ≡ partsOf g ws → Marks s i c (c .marks) n h m a p′ h₁ m′ → Drops s d a h₁ v b h₂ v₁ → Adds s i (kind ∷ parts) b h₂ v₁ e h′ v′
+      → Gives i d g ws n s c h m v e p′ h′ m′ v′
   unfolding Marks Drops Adds giveBlock
-  give-plain a b e h₁ h₂ h′ m′ v₁ v′ kind parts q ek ep M D X k A R r emptyMap H t va eg ew f p =
+  give-plain a b e p′ h₁ h₂ h′ m′ v₁ v′ kind parts q ek ep M D X k A R r emptyMap H t va eg ew f some p =
       absurd (omega (arith, q, ap branchOf eg, branch-map))
-  give-plain a b e h₁ h₂ h′ m′ v₁ v′ kind parts q ek ep M D X k A R r emptyList H t va eg ew f p =
+  give-plain a b e p′ h₁ h₂ h′ m′ v₁ v′ kind parts q ek ep M D X k A R r emptyList H t va eg ew f some p =
       absurd (omega (arith, q, ap branchOf eg, branch-list))
-  give-plain a b e h₁ h₂ h′ m′ v₁ v′ kind parts q ek ep M D X k A R r (plain x) H t va eg ew f p =
+  give-plain a b e p′ h₁ h₂ h′ m′ v₁ v′ kind parts q ek ep M D X k A R r (plain x) H t va eg ew f some p =
       let r₁ = markRow i r in
       let r₂ = dropRow d r₁ in
       let r₃ = addRow i x r₂ in
-      let N₁ = M k v A R r H t (f .0) (omega (arith, p .marks-spare)) in
-      let N₂ = D k m′ A R r₁ N₁ t in
+      let L = M k m v A R r (holds-gap n _ c _ H (p .marks-spare)) H t (f .0) (omega (arith, some, p .marks-spare)) some
+      (placed _ c s A R r H t .marks-low) in
+      let m₁ = L .table in
+      let N₂ = D k m₁ A R r₁ (L .is) t in
       let L₂ = row-does _ _ c b A R r r₂ 1 0 H N₂ (marked-more i r) (omega (arith, clear-values-length d r)) in
       let w : plainWords x ≡ kind ∷ parts = held-plain x va ∙ rw (ek, ep, eg, ew) in
-      let N₃ = X k m′ A R r₂ x N₂ t (fresh-clear-values d r i (f .1)) (omega (arith, L₂ .values-more, p .values-spare)) w in
-      let n : length (r₃ .values) ≤ length (r .values) + 1 =
+      let N₃ = X k m₁ A R r₂ x N₂ t (fresh-clear-values d r i (f .1)) (omega (arith, L₂ .values-more, p .values-spare)) w in
+      let l : length (r₃ .values) ≤ length (r .values) + 1 =
       omega (arith, put-length idOfValue (record { id = i; val = x }) (r₂ .values), clear-values-length d r) in
-      let J = row-does _ _ c e A R r r₃ 1 1 H N₃ (marked-more i r) n in
-      subst (λ R. Does (four h′ k m′ v′) c e 0 1 1 (A ++ r₃ ∷ R)) (sym (passed-rest (deeper (r .depth)) R)) J
+      let J = row-does _ _ c e A R r r₃ 1 1 H N₃ (marked-more i r) l in
+      record {
+        table = m₁;
+        gap = L .gap;
+        before = L .before;
+        is = subst (λ R. Does (four h′ k m₁ v′) c e 0 1 1 (A ++ r₃ ∷ R)) (sym (passed-rest (deeper (r .depth)) R)) J;
+      }
 
   -- an empty map or list
-  module _ (a e : Counts) (h₁ h₂ h′ m₁ m′ v′ : List ℕ) (list : Bool) (C : Clears d h m v c s h₁ m₁ v′ a) (M : Marks s i a h₁ m₁ e h₂ m′)
-      (F : Flags list (s .row) h₂ h′) where
+  module _ (a e : Counts) (p′ : ℕ) (h₁ h₂ h′ m₁ m′ v′ : List ℕ) (list : Bool) (C : Clears d h m v c s h₁ m₁ v′ a)
+      (M : Marks s i a (a .marks) n h₁ m₁ e p′ h₂ m′) (F : Flags list (s .row) h₂ h′) where
     branch-done : (k : List ℕ) (A R : List Row) (r : Row) → Holds (four h k m v) c (A ++ r ∷ R) → s ≡ behind A → Fresh i (r ∷ [])
-        → Spare c 0 1 1
-        → Does (four h′ k m′ v′) c e 0 1 1
-        (A ++ flagRow list (markRow i (clearRow d r)) ∷ (map (clearRow d) (passed (deeper (r .depth)) R) ++ rest (deeper (r .depth)) R))
+        → 0 < n → Spare c 0 n 1
+        → Leaves (n - 1) (s .mark) p′ m′ (λ t. Does (four h′ k t v′) c e 0 1 1
+        (A ++ flagRow list (markRow i (clearRow d r)) ∷ (map (clearRow d) (passed (deeper (r .depth)) R) ++ rest (deeper (r .depth)) R)))
     unfolding Marks Flags
-    branch-done k A R r H t f p =
+    branch-done k A R r H t f some p =
         let us = passed (deeper (r .depth)) R in
         let X = map (clearRow d) us ++ rest (deeper (r .depth)) R in
         let q = markRow i (clearRow d r) in
         let N₁ = C .holds k A R r H t in
-        let N₂ = M k v′ A X (clearRow d r) N₁ t (fresh-clear d (r .marks) i (f .0)) (omega (arith, C .marks-fewer, p .marks-spare)) in
-        let N₃ = F k m′ v′ e A X q N₂ (at-behind s A t .row) in
+        let L = M k m₁ v′ A X (clearRow d r) (holds-gap n _ a _ N₁ (omega (arith, C .marks-fewer, p .marks-spare))) N₁ t
+        (fresh-clear d (r .marks) i (f .0)) (omega (arith, some, C .marks-fewer, p .marks-spare)) some
+        (placed _ a s A X (clearRow d r) N₁ t .marks-low) in
+        let N₃ = F k (L .table) v′ e A X q (L .is) (at-behind s A t .row) in
         let H′ = subst (λ X. Holds (four h k m v) c (A ++ r ∷ X)) (sym (passed-rest (deeper (r .depth)) R)) H in
         let B = clears-rows d us in
-        block-does _ _ c e A (rest (deeper (r .depth)) R) us (map (clearRow d) us) r (flagRow list q) 1 1 H′ N₃
-        (omega (arith, B .places)) (omega (arith, B .marks)) (omega (arith, B .values))
-        (omega (arith, flag-marks list q, marked-more i (clearRow d r), clear-marks-length d (r .marks)))
-        (omega (arith, flag-values list q, clear-values-length d r))
+        record {
+          table = L .table;
+          gap = L .gap;
+          before = L .before;
+          is = block-does _ _ c e A (rest (deeper (r .depth)) R) us (map (clearRow d) us) r (flagRow list q) 1 1 H′ N₃
+              (omega (arith, B .places)) (omega (arith, B .marks)) (omega (arith, B .values))
+              (omega (arith, flag-marks list q, marked-more i (clearRow d r), clear-marks-length d (r .marks)))
+              (omega (arith, flag-values list q, clear-values-length d r));
+        }
 
-    pub give-branch : (branchOf g ≡ 0 → ⊥) → list ≡ eqb (branchOf g) 2 → Gives i d g ws s c h m v e h′ m′ v′
+    pub give-branch : (branchOf g ≡ 0 → ⊥) → list ≡ eqb (branchOf g) 2 → Gives i d g ws n s c h m v e p′ h′ m′ v′
     unfolding giveBlock
-    give-branch q l k A R r (plain x) H t va eg ew f p = absurd (q (ap branchOf eg ∙ branch-plain x))
-    give-branch q l k A R r emptyMap H t va eg ew f p =
+    give-branch q l k A R r (plain x) H t va eg ew f some p = absurd (q (ap branchOf eg ∙ branch-plain x))
+    give-branch q l k A R r emptyMap H t va eg ew f some p =
         let w : list ≡ false = l ∙ ap (λ n. eqb n 2) (ap branchOf eg ∙ branch-map) in
-        rw w at (branch-done k A R r H t f p)
-    give-branch q l k A R r emptyList H t va eg ew f p =
+        rw w at (branch-done k A R r H t f some p)
+    give-branch q l k A R r emptyList H t va eg ew f some p =
         let w : list ≡ true = l ∙ ap (λ n. eqb n 2) (ap branchOf eg ∙ branch-list) in
-        rw w at (branch-done k A R r H t f p)
+        rw w at (branch-done k A R r H t f some p)
 
 -- The way's end.
 
@@ -133,25 +151,29 @@ no-words (insert (after i) a) g e = omega (arith, ap length e)
 no-words (intoMap k w) g e = omega (arith, ap length e)
 no-words (intoList i w) g e = omega (arith, ap length e)
 
-module _ (o : Act) (s : Stop) (c e : Counts) (h m v h′ m′ v′ : List ℕ) where
-  pub finish-clear : isDelete (o .deed) ≡ true → Clears (o .deps .at) h m v c s h′ m′ v′ e → Finishes o s c h m v e h′ m′ v′
+module _ (o : Act) (n : ℕ) (s : Stop) (c e : Counts) (h m v h′ m′ v′ : List ℕ) where
+  pub finish-clear : isDelete (o .deed) ≡ true → Clears (o .deps .at) h m v c s h′ m′ v′ e → Finishes o n s c h m v e (e .marks) h′ m′ v′
   unfolding runBlock deedOf
-  finish-clear t C k A R r (assign a) H b z va d ws f p = absurd (true≢false (sym t ∙ ap isDelete d))
-  finish-clear t C k A R r delete H b z va d ws f p = record {
-    holds = C .holds k A R r H b;
-    rows-more = omega (arith, C .rows-same);
-    marks-more = omega (arith, C .marks-fewer);
-    values-more = omega (arith, C .values-fewer);
-  }
-  finish-clear t C k A R r (insert q a) H b z va d ws f p = absurd (true≢false (sym t ∙ ap isDelete d))
-  finish-clear t C k A R r (intoMap j w) H b z va d ws f p = absurd (no-words (intoMap j w) tt z)
-  finish-clear t C k A R r (intoList j w) H b z va d ws f p = absurd (no-words (intoList j w) tt z)
+  finish-clear t C k A R r (assign a) H b z va d ws f some p = absurd (true≢false (sym t ∙ ap isDelete d))
+  finish-clear t C k A R r delete H b z va d ws f some p =
+      let N = C .holds k A R r H b in
+      rw (marks-none (o .deed) (n - 1) t)
+      (leaves-still 0 s _ e A _ _ N b (omega (arith, N .marks-fit)) (record {
+        holds = N;
+        rows-more = omega (arith, C .rows-same);
+        marks-more = omega (arith, C .marks-fewer);
+        values-more = omega (arith, C .values-fewer);
+      }))
+  finish-clear t C k A R r (insert q a) H b z va d ws f some p = absurd (true≢false (sym t ∙ ap isDelete d))
+  finish-clear t C k A R r (intoMap j w) H b z va d ws f some p = absurd (no-words (intoMap j w) tt z)
+  finish-clear t C k A R r (intoList j w) H b z va d ws f some p = absurd (no-words (intoList j w) tt z)
 
-  pub finish-give : (g : Given) → isDelete (o .deed) ≡ false → g ≡ givenIn (o .deed)
-      → Gives (o .id) (o .deps .at) g (o .words) s c h m v e h′ m′ v′ → Finishes o s c h m v e h′ m′ v′
+  pub finish-give : (p′ : ℕ) (g : Given) → isDelete (o .deed) ≡ false → g ≡ givenIn (o .deed)
+      → Gives (o .id) (o .deps .at) g (o .words) n s c h m v e p′ h′ m′ v′ → Finishes o n s c h m v e p′ h′ m′ v′
   unfolding runBlock deedOf deedWords
-  finish-give g t y G k A R r (assign a) H b z va d ws f p = G k A R r a H b va (y ∙ ap givenIn d) ws f p
-  finish-give g t y G k A R r delete H b z va d ws f p = absurd (true≢false (sym (ap isDelete d) ∙ t))
-  finish-give g t y G k A R r (insert q a) H b z va d ws f p = absurd (no-words (insert q a) tt z)
-  finish-give g t y G k A R r (intoMap j w) H b z va d ws f p = absurd (no-words (intoMap j w) tt z)
-  finish-give g t y G k A R r (intoList j w) H b z va d ws f p = absurd (no-words (intoList j w) tt z)
+  finish-give p′ g t y G k A R r (assign a) H b z va d ws f some p =
+      rw (marks-all (o .deed) (n - 1) t) (G k A R r a H b va (y ∙ ap givenIn d) ws f some p)
+  finish-give p′ g t y G k A R r delete H b z va d ws f some p = absurd (true≢false (sym (ap isDelete d) ∙ t))
+  finish-give p′ g t y G k A R r (insert q a) H b z va d ws f some p = absurd (no-words (insert q a) tt z)
+  finish-give p′ g t y G k A R r (intoMap j w) H b z va d ws f some p = absurd (no-words (intoMap j w) tt z)
+  finish-give p′ g t y G k A R r (intoList j w) H b z va d ws f some p = absurd (no-words (intoList j w) tt z)

@@ -1,3 +1,4 @@
+pub mod Gaps
 pub mod Cases
 pub mod Passing
 pub mod Leading

@@ -1,11 +1,12 @@
 -- What the functions of this crate promise of tables that hold rows: h, k, m, v are the words of heads, keys, marks and values, primed ones
 -- those afterwards; c and e the counts before and after; A are the rows before, B or R those behind.
 -- Assumes nothing: these are definitions.
-use Prim.Native.Nat.{ℕ, suc, _+_, _≤_, _<_}
+use Prim.Native.Nat.{ℕ, suc, _+_, _-_, _≤_, _<_}
 use mathlib.Core.Path.{_≡_}
 use mathlib.Core.Bool.{Bool, true, false, cond, not}
 use mathlib.Core.List.{List, [], _∷_, _++_}
 use lib.Dec.{ltb, eqb}
+use lib.ListN.{length}
 use Rattle.meaning.specs.Ways.{Prev, Assigned, Way, steps}
 use Rattle.meaning.specs.Valid.{ValidAssigned, ValidWay}
 use Rattle.meaning.specs.Sheet.{Spot, inList, Row}
@@ -20,6 +21,7 @@ use Rattle.readers.specs.declared.Given.the-variants as G
 use Rattle.message.specs.Means.{prevWords, wayWords, deedOf, deedWords}
 use Rattle.message.specs.declared.Deed.{Deed}
 use Rattle.message.specs.declared.Deed.the-variants as D
+use Rattle.words.specs.Gap.{Gap, Leaves}
 use Rattle.tables.specs.Words.{side, spotWords, Tables}
 use Rattle.tables.specs.Finds.{GoodSpot, Agrees, Tells}
 use Rattle.tables.specs.Standing.{behind}
@@ -174,43 +176,56 @@ Seats n hi len i rows from h k x =
     (m v : List ℕ) (c : Counts) (A B : List Row) (p : Prev) → Holds (four h k m v) c (A ++ B) → rows ≡ c .rows → from ≡ behind A
     → hi ∷ 0 ∷ len ∷ [] ≡ prevWords p → either (x .there) (Sits n i p x A B) (SitsNot n i p B)
 
--- What is done at a row, which r stands for.
+-- What is done at a row, which r stands for. The marks of the places on the way, n with that of r at depth n, are put in one after another
+-- through a gap in the marks (words/specs/Gap): p is where it stands before, p′ afterwards.
+
+-- how many of n marks are put in: none by a delete
+unfoldable pub marksBy : Deed → ℕ → ℕ
+marksBy deed n = cond (isDelete deed) 0 n
 
 -- something is assigned: g with these words
-abbrev pub Gives : ℕ → List ℕ → Given → List ℕ → Stop → Counts → List ℕ → List ℕ → List ℕ → Counts → List ℕ → List ℕ → List ℕ → Type 0
-Gives i d g ws s c h m v e h′ m′ v′ =
+abbrev pub Gives : ℕ → List ℕ → Given → List ℕ → ℕ → Stop → Counts → List ℕ → List ℕ → List ℕ → Counts → ℕ → List ℕ → List ℕ → List ℕ
+    → Type 0
+Gives i d g ws n s c h m v e p′ h′ m′ v′ =
     (k : List ℕ) (A R : List Row) (r : Row) (a : Assigned) → Holds (four h k m v) c (A ++ r ∷ R) → s ≡ behind A
-    → ValidAssigned a → g ≡ givenOf a → ws ≡ valueWords a → Fresh i (r ∷ []) → Spare c 0 1 1
-    → Does (four h′ k m′ v′) c e 0 1 1 (A ++ (join (giveBlock i d a (blockAt (r .depth) r R)) ++ rest (deeper (r .depth)) R))
+    → ValidAssigned a → g ≡ givenOf a → ws ≡ valueWords a → Fresh i (r ∷ []) → 0 < n → Spare c 0 n 1
+    → Leaves (n - 1) (s .mark) p′ m′ (λ t. Does (four h′ k t v′) c e 0 1 1
+    (A ++ (join (giveBlock i d a (blockAt (r .depth) r R)) ++ rest (deeper (r .depth)) R)))
 
 -- the way ends at r
-abbrev pub Finishes : Act → Stop → Counts → List ℕ → List ℕ → List ℕ → Counts → List ℕ → List ℕ → List ℕ → Type 0
-Finishes o s c h m v e h′ m′ v′ =
+abbrev pub Finishes : Act → ℕ → Stop → Counts → List ℕ → List ℕ → List ℕ → Counts → ℕ → List ℕ → List ℕ → List ℕ → Type 0
+Finishes o n s c h m v e p′ h′ m′ v′ =
     (k : List ℕ) (A R : List Row) (r : Row) (w : Way) → Holds (four h k m v) c (A ++ r ∷ R) → s ≡ behind A
-    → wayWords w ≡ [] → ValidWay w → o .deed ≡ deedOf w → o .words ≡ deedWords w → Fresh (o .id) (r ∷ []) → Spare c 0 1 1
-    → Does (four h′ k m′ v′) c e 0 1 1
-    (A ++ (join (runBlock (o .id) (o .deps .at) (r .depth) w (blockAt (r .depth) r R)) ++ rest (deeper (r .depth)) R))
+    → wayWords w ≡ [] → ValidWay w → o .deed ≡ deedOf w → o .words ≡ deedWords w → Fresh (o .id) (r ∷ []) → 0 < n → Spare c 0 n 1
+    → Leaves (marksBy (o .deed) (n - 1)) (s .mark) p′ m′ (λ t. Does (four h′ k t v′) c e 0 1 1
+    (A ++ (join (runBlock (o .id) (o .deps .at) (r .depth) w (blockAt (r .depth) r R)) ++ rest (deeper (r .depth)) R)))
 
--- the way goes on from r, into its list or its map
-abbrev pub Enters : Act → Bool → Stop → Counts → List ℕ → List ℕ → Counts → List ℕ → List ℕ → Type 0
-Enters o list s c h m e h′ m′ =
-    (k v : List ℕ) (A R : List Row) (r : Row) (w : Way) → Holds (four h k m v) c (A ++ r ∷ R) → s ≡ behind A
-    → list ≡ ofList w → o .deed ≡ deedOf w → Fresh (o .id) (r ∷ []) → Spare c 0 1 0
-    → Does (four h′ k m′ v) c e 0 1 0 (A ++ enterRow (o .id) w r ∷ R)
+-- the way goes on from r, into its list or its map; the gap stands behind the marks of r
+abbrev pub Enters : Act → Bool → ℕ → Stop → Counts → ℕ → List ℕ → List ℕ → Counts → ℕ → List ℕ → List ℕ → Type 0
+Enters o list n s c p h m e p′ h′ m′ =
+    (k t v : List ℕ) (A R : List Row) (r : Row) (w : Way) → Gap (marksBy (o .deed) n) p m t → Holds (four h k t v) c (A ++ r ∷ R)
+    → s ≡ behind A → list ≡ ofList w → o .deed ≡ deedOf w → Fresh (o .id) (r ∷ []) → Spare c 0 1 0 → 0 < n
+    → s .mark + length (r .marks) ≤ p
+    → Leaves (marksBy (o .deed) (n - 1)) (s .mark) p′ m′ (λ t. Does (four h′ k t v) c e 0 1 0 (A ++ enterRow (o .id) w r ∷ R))
 
 -- What is done among the rows B behind a place, its children of depth n first.
 
--- a new element is put in behind its predecessor
-abbrev pub Inserts : Act → ℕ → ℕ → ℕ → Stop → Counts → Tables → Counts → Tables → Type 0
-Inserts o n hi len from c T e U =
-    (A B : List Row) (p : Prev) (a : Assigned) → Holds T c (A ++ B) → from ≡ behind A → hi ∷ 0 ∷ len ∷ [] ≡ prevWords p
-    → ValidAssigned a → o .deed ≡ D.Insert (givenOf a) → o .words ≡ valueWords a → n ≤ 8 → Fresh (o .id) B → Spare c 1 1 1
-    → Does U c e 1 1 1
-    (A ++ insertRows n p (o .id) (join (giveBlock (o .id) (o .deps .at) a (newBlock n (inList (o .id))))) B)
+-- the tables with other marks
+abbrev pub withMarks : Tables → List ℕ → Tables
+withMarks U t = four (U .heads) (U .keys) t (U .values)
 
--- the way is followed
-abbrev pub Descends : Act → ℕ → List ℕ → Stop → Counts → Tables → Counts → Tables → Type 0
-Descends o n ks from c T e U =
+-- a new element is put in behind its predecessor
+abbrev pub Inserts : Act → ℕ → ℕ → ℕ → Stop → Counts → Tables → Counts → ℕ → Tables → Type 0
+Inserts o n hi len from c T e p′ U =
+    (A B : List Row) (p : Prev) (a : Assigned) → Holds T c (A ++ B) → from ≡ behind A → hi ∷ 0 ∷ len ∷ [] ≡ prevWords p
+    → ValidAssigned a → o .deed ≡ D.Insert (givenOf a) → o .words ≡ valueWords a → n ≤ 8 → Fresh (o .id) B → 0 < n → Spare c 1 n 1
+    → Leaves (n - 1) (from .mark) p′ (U .marks) (λ t. Does (withMarks U t) c e 1 1 1
+    (A ++ insertRows n p (o .id) (join (giveBlock (o .id) (o .deps .at) a (newBlock n (inList (o .id))))) B))
+
+-- the way is followed; marks of n - 1 places above are left to be put in
+abbrev pub Descends : Act → ℕ → List ℕ → Stop → Counts → Tables → Counts → ℕ → Tables → Type 0
+Descends o n ks from c T e p′ U =
     (A B : List Row) (w : Way) → Holds T c (A ++ B) → from ≡ behind A → ks ≡ wayWords w → ValidWay w
-    → o .deed ≡ deedOf w → o .words ≡ deedWords w → n + steps w ≤ 9 → Fresh (o .id) B → Spare c (steps w) (steps w) 1
-    → Does U c e (steps w) (steps w) 1 (A ++ underRows (o .id) (o .deps .at) n w B)
+    → o .deed ≡ deedOf w → o .words ≡ deedWords w → n + steps w ≤ 9 → Fresh (o .id) B → 0 < n → Spare c (steps w) (n - 1 + steps w) 1
+    → Leaves (marksBy (o .deed) (n - 1)) (from .mark) p′ (U .marks) (λ t. Does (withMarks U t) c e (steps w) (steps w) 1
+    (A ++ underRows (o .id) (o .deps .at) n w B))

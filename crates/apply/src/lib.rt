@@ -1,8 +1,10 @@
 // Document 01, "What an operation does": an operation carried out on the tables, in place. The way is followed from the root down; what its
-// end says is done first, and each place on the way is marked on the way back, so that no step moves what a later one looks for.
+// end says is done first, and each place on the way is marked on the way back, so that no step moves what a later one looks for. As many words
+// as there are marks to put in are left out at the end of the way, as a gap that the marks travel through: no mark is moved twice.
 use meaning::Counters;
 use message::Deed;
 use readers::Given;
+use steps::Gapped;
 use tables::Counts;
 use tables::Stop;
 use tables::Want;
@@ -238,7 +240,8 @@ fn reach(
     lead(heads, keys, c, from, w, make)
 }
 
-// Assigns at a row: a plain value takes the place of those that deps cover; an empty map or list clears the place.
+// Assigns at a row: a plain value takes the place of those that deps cover; an empty map or list clears the place. The mark is the first of
+// n that are to be put in.
 fn give(
     heads: &mut [u64],
     marks: &mut [u64],
@@ -249,26 +252,31 @@ fn give(
     deps: Counters,
     g: Given,
     words: [u64; 4],
-) -> Counts
-    ensures { λ e. ⌜ Gives id (deps .at) g words s c (now (heads .entry)) (now (marks .entry)) (now (values .entry)) e (now (heads .exit))
-        (now (marks .exit)) (now (values .exit)) ⌝ }
+    n: usize,
+) -> Gapped
+    ensures { λ r. ⌜ Gives id (deps .at) g words n s c (now (heads .entry)) (now (marks .entry)) (now (values .entry)) (r .counts) (r .gap)
+        (now (heads .exit)) (now (marks .exit)) (now (values .exit)) ⌝ }
 {
     let branch = branch_of(g);
     if branch == 0 {
-        let a = steps::mark_row(heads, marks, c, s, id);
-        let b = steps::drop_values(heads, values, a, s, deps);
+        let a = steps::mark_row(heads, marks, c, s, id, c.marks, n);
+        let b = steps::drop_values(heads, values, a.counts, s, deps);
         let kind = kind_of(g);
         let parts = parts_of(g, words);
-        return steps::add_value(heads, values, b, s, id, kind, parts);
+        let e = steps::add_value(heads, values, b, s, id, kind, parts);
+        return Gapped {
+            counts: e,
+            gap: a.gap,
+        };
     }
     let row = s.row;
     let a = clear::clear_block(heads, marks, values, c, s, deps);
-    let b = steps::mark_row(heads, marks, a, s, id);
+    let b = steps::mark_row(heads, marks, a, s, id, a.marks, n);
     steps::flag_row(heads, row, branch == 2);
     b
 }
 
-// What the way's end says: an assign or a delete, at a row.
+// What the way's end says: an assign or a delete, at a row of depth n.
 fn finish(
     heads: &mut [u64],
     marks: &mut [u64],
@@ -276,14 +284,19 @@ fn finish(
     c: Counts,
     s: Stop,
     o: Act,
-) -> Counts
-    ensures { λ e. ⌜ Finishes o s c (now (heads .entry)) (now (marks .entry)) (now (values .entry)) e (now (heads .exit))
-        (now (marks .exit)) (now (values .exit)) ⌝ }
+    n: usize,
+) -> Gapped
+    ensures { λ r. ⌜ Finishes o n s c (now (heads .entry)) (now (marks .entry)) (now (values .entry)) (r .counts) (r .gap)
+        (now (heads .exit)) (now (marks .exit)) (now (values .exit)) ⌝ }
 {
     let deed = o.deed;
     let deps = o.deps;
     if is_delete(deed) {
-        return clear::clear_block(heads, marks, values, c, s, deps);
+        let counts = clear::clear_block(heads, marks, values, c, s, deps);
+        return Gapped {
+            counts,
+            gap: counts.marks,
+        };
     }
     let words = o.words;
     give(
@@ -296,20 +309,31 @@ fn finish(
         deps,
         given_in(deed),
         words,
+        n,
     )
 }
 
-// A place that the way goes on from: it is marked, unless the operation deletes, and its branch has its flag.
-fn enter(heads: &mut [u64], marks: &mut [u64], c: Counts, s: Stop, o: Act, list: bool) -> Counts
-    ensures { λ e. ⌜ Enters o list s c (now (heads .entry)) (now (marks .entry)) e (now (heads .exit)) (now (marks .exit)) ⌝ }
+// A place of depth n that the way goes on from: it is marked, unless the operation deletes, and its branch has its flag.
+fn enter(
+    heads: &mut [u64],
+    marks: &mut [u64],
+    c: Counts,
+    s: Stop,
+    o: Act,
+    list: bool,
+    gap: usize,
+    n: usize,
+) -> Gapped
+    ensures { λ r. ⌜ Enters o list n s c gap (now (heads .entry)) (now (marks .entry)) (r .counts) (r .gap) (now (heads .exit))
+        (now (marks .exit)) ⌝ }
 {
     let row = s.row;
     let deed = o.deed;
     if is_delete(deed) {
         steps::flag_row(heads, row, list);
-        return c;
+        return Gapped { counts: c, gap };
     }
-    let e = steps::mark_row(heads, marks, c, s, o.id);
+    let e = steps::mark_row(heads, marks, c, s, o.id, gap, n);
     steps::flag_row(heads, row, list);
     e
 }
@@ -387,9 +411,9 @@ fn put_element(
     hi: u64,
     len: u64,
     o: Act,
-) -> Counts
-    ensures { λ e. ⌜ Inserts o n hi len from c (four (now (heads .entry)) (now (keys .entry)) (now (marks .entry)) (now (values .entry))) e
-        (four (now (heads .exit)) (now (keys .exit)) (now (marks .exit)) (now (values .exit))) ⌝ }
+) -> Gapped
+    ensures { λ r. ⌜ Inserts o n hi len from c (four (now (heads .entry)) (now (keys .entry)) (now (marks .entry)) (now (values .entry)))
+        (r .counts) (r .gap) (four (now (heads .exit)) (now (keys .exit)) (now (marks .exit)) (now (values .exit))) ⌝ }
 {
     let deed = o.deed;
     let deps = o.deps;
@@ -397,12 +421,26 @@ fn put_element(
     let id = o.id;
     let s = find_seat(heads, keys, c.rows, from, n, hi, len, id);
     if !s.there {
-        return c;
+        return Gapped {
+            counts: c,
+            gap: c.marks,
+        };
     }
     let at = s.at;
     let row = at.row;
     let e = steps::open_row(heads, keys, c, row, n, 1, id, 0, 17);
-    give(heads, marks, values, e, at, id, deps, given_in(deed), words)
+    give(
+        heads,
+        marks,
+        values,
+        e,
+        at,
+        id,
+        deps,
+        given_in(deed),
+        words,
+        n as usize,
+    )
 }
 
 // Whether the way's last key is the predecessor of a new element.
@@ -416,7 +454,7 @@ fn inserts_here(left: usize, deed: Deed) -> bool
 }
 
 // Follows the way among the rows behind a place, whose children have depth n: to the row of its first key, and from there along the
-// remaining keys.
+// remaining keys. Unless the operation deletes, the n - 1 marks of the places above are left to be put in: the gap for them stands.
 pub fn descend(
     heads: &mut [u64],
     keys: &mut [u64],
@@ -427,17 +465,18 @@ pub fn descend(
     n: u64,
     o: Act,
     way: &[u64],
-) -> Counts
-    ensures { λ e. ⌜ Descends o n (now (way .entry)) from c
-        (four (now (heads .entry)) (now (keys .entry)) (now (marks .entry)) (now (values .entry))) e
+) -> Gapped
+    ensures { λ r. ⌜ Descends o n (now (way .entry)) from c
+        (four (now (heads .entry)) (now (keys .entry)) (now (marks .entry)) (now (values .entry))) (r .counts) (r .gap)
         (four (now (heads .exit)) (now (keys .exit)) (now (marks .exit)) (now (values .exit))) ⌝ }
 {
     let left = way.len();
+    let gap = c.marks;
     if left < 3 {
-        return c;
+        return Gapped { counts: c, gap };
     }
     if n > 8 {
-        return c;
+        return Gapped { counts: c, gap };
     }
     let hi = way[0];
     let lo = way[1];
@@ -448,18 +487,18 @@ pub fn descend(
     }
     let x = reach(heads, keys, c, from, n, hi, lo, len, left - 3, deed);
     if !x.there {
-        return c;
+        return Gapped { counts: c, gap };
     }
     let at = x.at;
     let counts = x.counts;
     if left == 3 {
-        return finish(heads, marks, values, counts, at, o);
+        return finish(heads, marks, values, counts, at, o, n as usize);
     }
     if left < 6 {
-        return counts;
+        return Gapped { counts, gap };
     }
     let third = way[5];
     let p = past(heads, at);
     let e = descend(heads, keys, marks, values, counts, p, n + 1, o, &way[3..]);
-    enter(heads, marks, e, at, o, third > 16)
+    enter(heads, marks, e.counts, at, o, third > 16, e.gap, n as usize)
 }

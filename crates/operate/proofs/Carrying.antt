@@ -32,7 +32,10 @@ use Rattle.message.specs.declared.Operation.{Operation}
 use Rattle.tables.specs.Words.{Tables}
 use Rattle.tables.specs.Holding.{Holds}
 use Rattle.tables.specs.declared.Counts.{Counts}
-use Rattle.apply.specs.Doing.{Descends}
+use Rattle.words.specs.Gap.{Gap}
+use Rattle.words.proofs.Gap.{gap-closed}
+use Rattle.apply.specs.Doing.{marksBy, withMarks, Descends}
+use Rattle.apply.proofs.Gaps.{marks-most}
 use Rattle.apply.specs.declared.Act.{Act}
 use Rattle.operate.specs.Judging.{isTaken, readyVerdict, verdict, Stores, Newer, Parts, JudgesReady, Judges}
 use Rattle.operate.specs.Judging.{CarriesWay, CarriesOut, Applies}
@@ -68,21 +71,25 @@ module _ (T U : Tables) (c e : Counts) (a : Act) (ks : List ℕ) (n : ℕ) where
       → underRows (a .id) (a .deps .at) 1 (whole o) rs ≡ applyRows o rs
   same-rows o rs q = ap₂ (λ i d. underRows i d 1 (whole o) rs) (q .id) (q .deps) ∙ sym (apply-under o rs)
 
-  pub carry-way : (way : List ℕ) → way ≡ take (3 * n) ks
-      → Descends a 1 way (record { row = 0; mark = 0; value = 0 }) c T e U → CarriesWay T c a ks n e U
+  -- below the root no mark is left to be put in: the gap is closed
+  pub carry-way : (way : List ℕ) (p : ℕ) → way ≡ take (3 * n) ks
+      → Descends a 1 way (record { row = 0; mark = 0; value = 0 }) c T e p U → CarriesWay T c a ks n e U
   unfolding steps
-  carry-way way part X D o S q w val y =
+  carry-way way p part X D o S q w val y =
       let l = fits-limits D (S .limits) in
       let r = val .edit .reach in
       let H = S .rows in
       let f = subst (λ i. Fresh i (rowsOf D)) (sym (q .id)) (sound-fresh D (o .id) (S .sound) y) in
       let d = X [] (rowsOf D) (whole o) H first-behind (part ∙ way-part _ _ _ ks n o q val) (val .edit .first, val .edit .rest)
-      (deed-whole _ _ _ ks n o q val) (value-whole o w) (omega (arith, r)) f (record {
+      (deed-whole _ _ _ ks n o q val) (value-whole o w) (omega (arith, r)) f (omega arith) (record {
         rows-spare = omega (arith, r, l .places, H .rows-are);
         marks-spare = omega (arith, r, l .marks, H .marks-are);
         values-spare = omega (arith, l .values, H .values-are);
       }) in
-      subst (Holds U e) (same-rows o (rowsOf D) q ∙ apply-rows o D) (d .holds)
+      let none : marksBy (a .deed) 0 ≡ 0 = omega (arith, marks-most (a .deed) 0) in
+      let shut : d .table ≡ U .marks = sym (gap-closed p (U .marks) (d .table) (subst (λ g. Gap g p (U .marks) (d .table)) none (d .gap))) in
+      let rows = underRows (a .id) (a .deps .at) 1 (whole o) (rowsOf D) in
+      subst (Holds U e) (same-rows o (rowsOf D) q ∙ apply-rows o D) (subst (λ t. Holds (withMarks U t) e rows) shut (d .is .holds))
 
 pub carry-out : (T U : Tables) (c e : Counts) (op : Operation) → CarriesWay T c (actOf op) (op .way .keys) (op .way .n) e U
     → CarriesOut T c op e U

@@ -226,7 +226,7 @@ fn carry_way(
     if end > words.len() {
         return c;
     }
-    apply::descend(
+    let e = apply::descend(
         heads,
         keys,
         marks,
@@ -240,7 +240,8 @@ fn carry_way(
         1,
         o,
         &words[..end],
-    )
+    );
+    e.counts
 }
 
 // Carries an operation out.

@@ -15,10 +15,11 @@ use Rattle.words.specs.Words.{run, opened, inserted}
 use Rattle.words.specs.Rows.{rankOf, Ranked}
 use Rattle.words.proofs.Over.{run-parts}
 use Rattle.words.proofs.Flat.{alone, flat-own, strides-own}
-use Rattle.words.proofs.Tables.{open-one}
-use Rattle.tables.specs.Words.{headWord, marksAt, marksOf, pad}
-use Rattle.tables.specs.Holding.{marksRoom, valuesRoom}
-use Rattle.tables.specs.Parts.{at-behind, marks-length, marks-of-append, marks-parts}
+use Rattle.words.specs.Gap.{Gap, Leaves}
+use Rattle.words.proofs.Gap.{gap-open, gap-run, gap-put, zeros-behind}
+use Rattle.tables.specs.Words.{headWord, marksAt, marksOf, pad, Tables}
+use Rattle.tables.specs.Holding.{marksRoom, valuesRoom, Holds}
+use Rattle.tables.specs.Parts.{at-behind, marks-length, marks-long, marks-of-append, marks-parts}
 use Rattle.tables.specs.declared.Counts.{Counts}
 use Rattle.tables.specs.declared.Stop.{Stop}
 use Rattle.steps.specs.Steps.{Marks}
@@ -47,24 +48,40 @@ module _ (A R : List Row) (r : Row) (m : List ℕ) (e : m ≡ pad marksRoom (mar
       ap (inserted live (from + k) (id ∷ [])) (e ∙ ap (pad marksRoom) (marks-of-append A (r ∷ R)))
       ∙ (Q ∙ ap (pad marksRoom) (sym (marks-of-append A (markRow id r ∷ R))))
 
-pub marks : (s : Stop) (id n k : ℕ) (c : Counts) (h m m₁ : List ℕ) → c .marks < length m → s .mark ≤ c .marks → n ≤ c .marks - s .mark
-    → n ≡ marksAt (getD h (s .row) 0) → Ranked n (rankOf own id (run (s .mark) n m)) k → m₁ ≡ opened (c .marks) (s .mark + k) 1 m
-    → Marks s id c h m (record { rows = c .rows; marks = c .marks + 1; values = c .values })
-    (set h (s .row) (getD h (s .row) 0 + 128)) (set m₁ (s .mark + k) id)
+-- behind the marks stand zeros
+holds-zeros : (T : Tables) (c : Counts) (rs : List Row) → Holds T c rs → (j : ℕ) → c .marks ≤ j → j < length (T .marks)
+    → getD (T .marks) j 0 ≡ 0
+holds-zeros T c rs H j a b =
+    ap (λ (t : List ℕ). getD t j 0) (H .marks)
+    ∙ zeros-behind marksRoom (marksOf rs) j (omega (arith, marks-length rs, H .marks-are)) (omega (arith, b, marks-long T c rs H))
+
+-- so that a gap stands there, if they have room for it
+pub holds-gap : (g : ℕ) (T : Tables) (c : Counts) (rs : List Row) → Holds T c rs → c .marks + g ≤ 1032 → Gap g (c .marks) (T .marks) (T .marks)
+holds-gap g T c rs H h = gap-open g (c .marks) (T .marks) (omega (arith, marks-long T c rs H)) (holds-zeros T c rs H)
+
+pub marks : (s : Stop) (id n k p g : ℕ) (c : Counts) (h m m₁ : List ℕ) → s .mark ≤ p → n ≤ p - s .mark
+    → n ≡ marksAt (getD h (s .row) 0) → Ranked n (rankOf own id (run (s .mark) n m)) k → m₁ ≡ opened p (s .mark + k) g m
+    → Marks s id c p g h m (record { rows = c .rows; marks = c .marks + 1; values = c .values }) (s .mark + k)
+    (set h (s .row) (getD h (s .row) 0 + 128)) (set m₁ (s .mark + k + g - 1) id)
 unfolding Marks
-marks s id n k c h m m₁ a b d x K o keys v A R r H t u l =
-    let p = at-behind s A t in
-    let P = placed _ c s A R r H t in
-    let g = P .good .marks in
+marks s id n k p g c h m m₁ b d x K o keys t v A R r G H e u l some low =
+    let a = at-behind s A e in
+    let P = placed _ c s A R r H e in
+    let f = P .good .marks in
     let y : n ≡ length (r .marks) = x ∙ P .marks in
-    let w : run (s .mark) n m ≡ r .marks = rw y (marks-here A R r m (H .marks) (s .mark) (p .mark)) in
+    let w : run (s .mark) n m ≡ r .marks =
+    gap-run g p (s .mark) n m t G (omega arith) ∙ rw y (marks-here A R r t (H .marks) (s .mark) (a .mark)) in
     let q : k ≡ rankOf own id (r .marks) = K .is ∙ ap (rankOf own id) w in
-    let i : length (put own id (r .marks)) ≡ length (r .marks) + 1 = put-more own id (r .marks) g u in
+    let i : length (put own id (r .marks)) ≡ length (r .marks) + 1 = put-more own id (r .marks) f u in
     let z : getD h (s .row) 0 + 128 ≡ headWord (markRow id r) = omega (arith, P .head) in
-    let M : set m₁ (s .mark + k) id ≡ pad marksRoom (marksOf (A ++ markRow id r ∷ R)) =
-    ap (λ (j : List ℕ). set j (s .mark + k) id) o ∙ (open-one (c .marks) (s .mark + k) id m (omega (arith, K .high)) (omega arith)
-    ∙ mark-put A R r m (H .marks) (s .mark) (p .mark) id k (c .marks) g u q (H .marks-are) l) in
-    rw (z, p .row)
-    (changed A r (markRow id r) R h keys m v _ v c _ H refl
-    (λ G. record { spot = G .spot; depth = G .depth; marks = asc-put own id (r .marks) (G .marks); values = G .values }) M
-    (H .values ∙ ap (pad valuesRoom) (values-same A r (markRow id r) R refl)) refl (omega arith) refl (omega arith) (H .values-fit))
+    let M = mark-put A R r t (H .marks) (s .mark) (a .mark) id k (c .marks) f u q (H .marks-are) l in
+    record {
+      table = inserted (c .marks) (s .mark + k) (id ∷ []) t;
+      gap = rw o (gap-put g p (s .mark + k) (c .marks) id m t G some (omega (arith, K .high)) (omega (arith, K .high, P .marks-low))
+          (omega (arith, P .marks-long, l)) (holds-zeros _ c _ H));
+      before = omega arith;
+      is = rw (z, a .row)
+          (changed A r (markRow id r) R h keys t v _ v c _ H refl
+          (λ G. record { spot = G .spot; depth = G .depth; marks = asc-put own id (r .marks) (G .marks); values = G .values }) M
+          (H .values ∙ ap (pad valuesRoom) (values-same A r (markRow id r) R refl)) refl (omega arith) refl (omega arith) (H .values-fit));
+    }

@@ -3,7 +3,7 @@
 -- h, k, m, v are the words of the tables heads, keys, marks, values; primed ones are those afterwards; c and e the counts before and after.
 -- A table that a step isn't lent is any, and the same afterwards. Memory that holds no rows is promised nothing.
 -- Assumes nothing: these are definitions.
-use Prim.Native.Nat.{ℕ, _≤_, _<_}
+use Prim.Native.Nat.{ℕ, _+_, _-_, _≤_, _<_}
 use mathlib.Core.Path.{_≡_}
 use mathlib.Core.Bool.{Bool}
 use mathlib.Core.List.{List, _∷_, _++_}
@@ -12,6 +12,7 @@ use Rattle.meaning.specs.Members.{Has, own, idOfValue}
 use Rattle.meaning.specs.Places.{Plain}
 use Rattle.meaning.specs.Sheet.{Spot, Row}
 use Rattle.rows.specs.Blocks.{newRow, markRow, dropRow, addRow}
+use Rattle.words.specs.Gap.{Gap, Leaves}
 use Rattle.tables.specs.Words.{side, headWord, spotWords, plainWords}
 use Rattle.tables.specs.Finds.{GoodSpot}
 use Rattle.tables.specs.Standing.{behind}
@@ -34,10 +35,13 @@ Opens at depth s w c h k e h′ k′ =
     (m v : List ℕ) (A R : List Row) (p : Spot) → Holds (four h k m v) c (A ++ R) → at ≡ length A → c .rows < 264 → depth ≤ 8 → GoodSpot p
     → spotWords p ≡ w → s ≡ side p → Holds (four h′ k′ m v) e (A ++ newRow depth p ∷ R)
 
-unfoldable pub Marks : Stop → ℕ → Counts → List ℕ → List ℕ → Counts → List ℕ → List ℕ → Type 0
-Marks s id c h m e h′ m′ =
-    (k v : List ℕ) (A R : List Row) (r : Row) → Holds (four h k m v) c (A ++ r ∷ R) → s ≡ behind A → (Has own id (r .marks) → ⊥)
-    → c .marks < 1032 → Holds (four h′ k m′ v) e (A ++ markRow id r ∷ R)
+-- The row r has a mark more. The marks are lent with a gap of g words in them, from p on, behind the marks of r; afterwards the gap is one word
+-- smaller and stands from p′ on, behind the marks before r.
+unfoldable pub Marks : Stop → ℕ → Counts → ℕ → ℕ → List ℕ → List ℕ → Counts → ℕ → List ℕ → List ℕ → Type 0
+Marks s id c p g h m e p′ h′ m′ =
+    (k t v : List ℕ) (A R : List Row) (r : Row) → Gap g p m t → Holds (four h k t v) c (A ++ r ∷ R) → s ≡ behind A
+    → (Has own id (r .marks) → ⊥) → c .marks < 1032 → 0 < g → s .mark + length (r .marks) ≤ p
+    → Leaves (g - 1) (s .mark) p′ m′ (λ t. Holds (four h′ k t v) e (A ++ markRow id r ∷ R))
 
 unfoldable pub Drops : Stop → List ℕ → Counts → List ℕ → List ℕ → Counts → List ℕ → List ℕ → Type 0
 Drops s d c h v e h′ v′ =

@@ -102,41 +102,67 @@ fn values_of(h: u64) -> usize
     (h / 262144 % 512) as usize
 }
 
-// Puts an id among a row's marks, which don't have it.
-pub fn mark_row(heads: &mut [u64], marks: &mut [u64], c: Counts, s: Stop, id: u64) -> Counts
-    ensures { λ r. ⌜ Marks s id c (now (heads .entry)) (now (marks .entry)) r (now (heads .exit)) (now (marks .exit)) ⌝ }
+// The counts of tables whose marks have a gap in them, and where it stands.
+pub struct Gapped {
+    pub counts: Counts,
+    pub gap: usize,
+}
+
+// Puts an id among a row's marks, which don't have it. The row's marks stand before a gap of g words, from `gap` on; the words between the
+// new mark and the gap move up over it, so that a gap of one word less stands before the new mark.
+pub fn mark_row(
+    heads: &mut [u64],
+    marks: &mut [u64],
+    c: Counts,
+    s: Stop,
+    id: u64,
+    gap: usize,
+    g: usize,
+) -> Gapped
+    ensures { λ r. ⌜ Marks s id c gap g (now (heads .entry)) (now (marks .entry)) (r .counts) (r .gap) (now (heads .exit))
+        (now (marks .exit)) ⌝ }
 {
     let row = s.row;
     let from = s.mark;
     let live = c.marks;
     if row >= heads.len() {
-        return c;
+        return Gapped { counts: c, gap };
     }
     if live >= 1032 {
-        return c;
+        return Gapped { counts: c, gap };
     }
-    if live >= marks.len() {
-        return c;
+    if g == 0 {
+        return Gapped { counts: c, gap };
+    }
+    if gap > marks.len() {
+        return Gapped { counts: c, gap };
+    }
+    if g > marks.len() - gap {
+        return Gapped { counts: c, gap };
     }
     let h = heads[row];
     if h >= 134217728 {
-        return c;
+        return Gapped { counts: c, gap };
     }
     let n = marks_of(h);
-    if from > live {
-        return c;
+    if from > gap {
+        return Gapped { counts: c, gap };
     }
-    if n > live - from {
-        return c;
+    if n > gap - from {
+        return Gapped { counts: c, gap };
     }
     let k = rank(marks, from, n, id);
-    open(marks, live, from + k, 1);
-    marks[from + k] = id;
+    let at = from + k;
+    open(marks, gap, at, g);
+    marks[at + g - 1] = id;
     heads[row] = h + 128;
-    Counts {
-        rows: c.rows,
-        marks: live + 1,
-        values: c.values,
+    Gapped {
+        counts: Counts {
+            rows: c.rows,
+            marks: live + 1,
+            values: c.values,
+        },
+        gap: at,
     }
 }
 

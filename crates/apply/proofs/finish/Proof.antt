@@ -22,7 +22,7 @@ same-length-3 c = search needs
 
 returns : tie.Need-returns
 returns c =
-    finish-clear (c .before .before .before .before .before .before .before .before .before .before .before .before .before .before .before .before .args .o) _ _ _ _ _ _ _ _ _ (sym (c .before .before .before .before .before .before .before .before .before .before .before .is-delete .ensures) ∙ c .before .before .before .before .before .before .before .before .before .before .if1 .taken) (c .before .before .before .before .before .before .clear-block .ensures)
+    finish-clear (c .before .before .before .before .before .before .before .before .before .before .before .before .before .before .before .before .args .o) _ _ _ _ _ _ _ _ _ _ (sym (c .before .before .before .before .before .before .before .before .before .before .before .is-delete .ensures) ∙ c .before .before .before .before .before .before .before .before .before .before .if1 .taken) (c .before .before .before .before .before .before .clear-block .ensures)
 
 given-in-requires : tie.Need-given-in-requires
 given-in-requires c κs = search needs
@@ -41,7 +41,7 @@ same-length-6 c = search needs
 
 returns-2 : tie.Need-returns-2
 returns-2 c =
-    finish-give (c .before .before .before .before .before .before .before .before .before .before .before .before .before .before .before .before .before .before .args .o) _ _ _ _ _ _ _ _ _ _ (sym (c .before .before .before .before .before .before .before .before .before .before .before .before .before .is-delete .ensures) ∙ c .before .before .before .before .before .before .before .before .before .before .before .before .if1 .left) (c .before .before .before .before .before .before .before .given-in .ensures) (c .before .before .before .before .before .before .give .ensures)
+    finish-give (c .before .before .before .before .before .before .before .before .before .before .before .before .before .before .before .before .before .before .args .o) _ _ _ _ _ _ _ _ _ _ _ _ (sym (c .before .before .before .before .before .before .before .before .before .before .before .before .before .is-delete .ensures) ∙ c .before .before .before .before .before .before .before .before .before .before .before .before .if1 .left) (c .before .before .before .before .before .before .before .given-in .ensures) (c .before .before .before .before .before .before .give .ensures)
 
 pub finish-spec : {M : Type 1} → statement M
 finish-spec =

@@ -35,7 +35,7 @@ same-length-4 : tie.Need-same-length-4
 same-length-4 c = search needs
 
 returns-3 : tie.Need-returns-3
-returns-3 c = carry-way _ _ _ _ (c .before .before .before .before .before .before .before .before .before .before .before .before .before .before .before .before .before .before .before .before .before .args .o) _ _ _ refl (c .before .before .before .before .before .before .before .before .descend .ensures)
+returns-3 c = carry-way _ _ _ _ (c .before .before .before .before .before .before .before .before .before .before .before .before .before .before .before .before .before .before .before .before .before .before .args .o) _ _ _ _ refl (c .before .before .before .before .before .before .before .before .before .descend .ensures)
 
 pub carry-way-spec : {M : Type 1} → statement M
 carry-way-spec =

@@ -1,4 +1,4 @@
--- `steps::mark_row` meets its contract: the id is put in at its rank. Assumes nothing.
+-- `steps::mark_row` meets its contract: the id is put in at its rank, before the gap. Assumes nothing.
 use native.Mathlib.Omega.{arith}
 use borrow.Author.Needs.{needs}
 use Rattle.steps.specs.Steps.{Marks}
@@ -9,15 +9,26 @@ use Rattle.steps.proofs.mark_row.Tie as tie
 
 returns : tie.Need-returns
 unfolding Marks
-returns c k v A R r H t u l = absurd (omega (arith, placed _ _ _ A R r H t .row, c .if1 .taken))
+returns c k t v A R r G H e u l some low = absurd (omega (arith, placed _ _ _ A R r H e .row, c .if1 .taken))
 
 returns-2 : tie.Need-returns-2
 unfolding Marks
-returns-2 c k v A R r H t u l = absurd (omega (arith, l, c .if2 .taken))
+returns-2 c k t v A R r G H e u l some low = absurd (omega (arith, l, c .if2 .taken))
 
 returns-3 : tie.Need-returns-3
 unfolding Marks
-returns-3 c k v A R r H t u l = absurd (omega (arith, placed _ _ _ A R r H t .marks-long, l, c .if3 .taken))
+returns-3 c k t v A R r G H e u l some low = absurd (omega (arith, some, c .if3 .taken))
+
+returns-4 : tie.Need-returns-4
+unfolding Marks
+returns-4 c k t v A R r G H e u l some low = absurd (omega (arith, G .fits, G .long, c .if4 .taken))
+
+sub-if5 : tie.Need-sub-if5
+sub-if5 c = search needs
+
+returns-5 : tie.Need-returns-5
+unfolding Marks
+returns-5 c k t v A R r G H e u l some low = absurd (omega (arith, G .fits, G .long, c .if5 .taken))
 
 mul-h : tie.Need-mul-h
 mul-h c = search needs
@@ -25,34 +36,35 @@ mul-h c = search needs
 slice-read-h : tie.Need-slice-read-h
 slice-read-h c = search needs
 
-returns-4 : tie.Need-returns-4
+returns-6 : tie.Need-returns-6
 unfolding Marks
-returns-4 c k v A R r H t u l = absurd (omega (arith, placed _ _ _ A R r H t .small, c .if4 .taken))
+returns-6 c k t v A R r G H e u l some low = absurd (omega (arith, placed _ _ _ A R r H e .small, c .if6 .taken))
 
 marks-of-requires : tie.Need-marks-of-requires
 marks-of-requires c κs = search needs
 
-returns-5 : tie.Need-returns-5
+returns-7 : tie.Need-returns-7
 unfolding Marks
-returns-5 c k v A R r H t u l = absurd (omega (arith, placed _ _ _ A R r H t .marks-low, c .if5 .taken))
+returns-7 c k t v A R r G H e u l some low = absurd (omega (arith, low, c .if7 .taken))
 
-returns-6 : tie.Need-returns-6
+returns-8 : tie.Need-returns-8
 unfolding Marks
-returns-6 c k v A R r H t u l =
-    let p = placed _ _ _ A R r H t in
-    absurd (omega (arith, p .marks-low, p .marks, c .before .before .marks-of .ensures, c .if6 .taken))
+returns-8 c k t v A R r G H e u l some low = absurd (omega (arith, low, placed _ _ _ A R r H e .marks, c .before .before .marks-of .ensures, c .if8 .taken))
 
 rank-requires : tie.Need-rank-requires
 rank-requires c κs = search needs
 
-add-open : tie.Need-add-open
-add-open c = search needs
+add-at : tie.Need-add-at
+add-at c = search needs
 
 open-requires : tie.Need-open-requires
 open-requires c κs = search needs
 
 add-marks : tie.Need-add-marks
 add-marks c = search needs
+
+sub-marks : tie.Need-sub-marks
+sub-marks c = search needs
 
 mul-marks : tie.Need-mul-marks
 mul-marks c = search needs
@@ -69,8 +81,8 @@ mul-heads c = search needs
 slice-write-heads : tie.Need-slice-write-heads
 slice-write-heads c = search needs
 
-add-t12 : tie.Need-add-t12
-add-t12 c = search needs
+add-t17 : tie.Need-add-t17
+add-t17 c = search needs
 
 same-length : tie.Need-same-length
 same-length c = search needs
@@ -78,13 +90,9 @@ same-length c = search needs
 same-length-2 : tie.Need-same-length-2
 same-length-2 c = search needs
 
-returns-7 : tie.Need-returns-7
-returns-7 c =
-    let o = c .before .before in
-    let k = o .before .before in
-    let g = k .before .before in
-    let n = g .before .before in
-    marks _ _ _ _ _ _ _ _ (n .before .before .before .if3 .left) (g .before .if5 .left) (g .if6 .left) (n .marks-of .ensures) (k .rank .ensures) (o .«open» .ensures)
+returns-9 : tie.Need-returns-9
+returns-9 c =
+    marks _ _ _ _ _ _ _ _ _ _ (c .before .before .before .before .before .before .before .if7 .left) (c .before .before .before .before .before .before .if8 .left) (c .before .before .before .before .before .before .before .before .marks-of .ensures) (c .before .before .before .before .rank .ensures) (c .before .before .«open» .ensures)
 
 pub mark-row-spec : {M : Type 1} → statement M
 mark-row-spec =
@@ -93,22 +101,26 @@ mark-row-spec =
     returns
     returns-2
     returns-3
+    returns-4
+    sub-if5
+    returns-5
     mul-h
     slice-read-h
-    returns-4
-    marks-of-requires
-    returns-5
     returns-6
+    marks-of-requires
+    returns-7
+    returns-8
     rank-requires
-    add-open
+    add-at
     open-requires
     add-marks
+    sub-marks
     mul-marks
     slice-write-marks
     add-heads
     mul-heads
     slice-write-heads
-    add-t12
+    add-t17
     same-length
     same-length-2
-    returns-7)
+    returns-9)
