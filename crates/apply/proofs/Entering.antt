@@ -126,5 +126,6 @@ module _ (o : Act) (list : Bool) (n : ℕ) (s : Stop) (c : Counts) (p : ℕ) (h 
         before = L .before;
         is = subst (λ q. Does (four h′ k t₁ v) c e 0 1 0 (A ++ q ∷ R)) q
             (row-does _ _ c e A R r (flagRow list (markRow (o .id) r)) 1 0 H N
-            (omega (arith, marked-more (o .id) r, flag-marks list (markRow (o .id) r))) (omega (arith, flag-values list (markRow (o .id) r))));
+            (omega (arith, marked-more (o .id) r, flag-marks list (markRow (o .id) r)))
+            (omega (arith, flag-values list (markRow (o .id) r))));
       }

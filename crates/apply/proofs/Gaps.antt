@@ -1,4 +1,5 @@
--- The gap that the marks of a way travel through: how many marks are put in, where the marks of a row stand, and a gap behind the last mark.
+-- The gap that the marks of a way travel through: how many marks are put in, where the marks of a row stand, and a gap behind the last
+-- mark.
 -- Assumes nothing.
 use Prim.Native.Nat.{ℕ, _+_, _≤_, _<_}
 use native.Mathlib.Omega.{arith}

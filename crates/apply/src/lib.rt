@@ -1,6 +1,6 @@
 // Document 01, "What an operation does": an operation carried out on the tables, in place. The way is followed from the root down; what its
-// end says is done first, and each place on the way is marked on the way back, so that no step moves what a later one looks for. As many words
-// as there are marks to put in are left out at the end of the way, as a gap that the marks travel through: no mark is moved twice.
+// end says is done first, and each place on the way is marked on the way back, so that no step moves what a later one looks for. At the end
+// of the way a gap of as many words as there are marks to put in stands in the marks; it travels to the front, and no mark is moved twice.
 use meaning::Counters;
 use message::Deed;
 use readers::Given;

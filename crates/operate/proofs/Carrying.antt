@@ -87,7 +87,8 @@ module _ (T U : Tables) (c e : Counts) (a : Act) (ks : List ℕ) (n : ℕ) where
         values-spare = omega (arith, l .values, H .values-are);
       }) in
       let none : marksBy (a .deed) 0 ≡ 0 = omega (arith, marks-most (a .deed) 0) in
-      let shut : d .table ≡ U .marks = sym (gap-closed p (U .marks) (d .table) (subst (λ g. Gap g p (U .marks) (d .table)) none (d .gap))) in
+      let shut : d .table ≡ U .marks =
+      sym (gap-closed p (U .marks) (d .table) (subst (λ g. Gap g p (U .marks) (d .table)) none (d .gap))) in
       let rows = underRows (a .id) (a .deps .at) 1 (whole o) (rowsOf D) in
       subst (Holds U e) (same-rows o (rowsOf D) q ∙ apply-rows o D) (subst (λ t. Holds (withMarks U t) e rows) shut (d .is .holds))
 

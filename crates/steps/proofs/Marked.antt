@@ -56,7 +56,8 @@ holds-zeros T c rs H j a b =
     ∙ zeros-behind marksRoom (marksOf rs) j (omega (arith, marks-length rs, H .marks-are)) (omega (arith, b, marks-long T c rs H))
 
 -- so that a gap stands there, if they have room for it
-pub holds-gap : (g : ℕ) (T : Tables) (c : Counts) (rs : List Row) → Holds T c rs → c .marks + g ≤ 1032 → Gap g (c .marks) (T .marks) (T .marks)
+pub holds-gap : (g : ℕ) (T : Tables) (c : Counts) (rs : List Row) → Holds T c rs → c .marks + g ≤ 1032
+    → Gap g (c .marks) (T .marks) (T .marks)
 holds-gap g T c rs H h = gap-open g (c .marks) (T .marks) (omega (arith, marks-long T c rs H)) (holds-zeros T c rs H)
 
 pub marks : (s : Stop) (id n k p g : ℕ) (c : Counts) (h m m₁ : List ℕ) → s .mark ≤ p → n ≤ p - s .mark

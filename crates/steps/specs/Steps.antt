@@ -35,8 +35,8 @@ Opens at depth s w c h k e h′ k′ =
     (m v : List ℕ) (A R : List Row) (p : Spot) → Holds (four h k m v) c (A ++ R) → at ≡ length A → c .rows < 264 → depth ≤ 8 → GoodSpot p
     → spotWords p ≡ w → s ≡ side p → Holds (four h′ k′ m v) e (A ++ newRow depth p ∷ R)
 
--- The row r has a mark more. The marks are lent with a gap of g words in them, from p on, behind the marks of r; afterwards the gap is one word
--- smaller and stands from p′ on, behind the marks before r.
+-- The row r has a mark more. The marks are lent with a gap of g words in them, from p on, behind the marks of r; afterwards the gap is
+-- one word smaller and stands from p′ on, behind the marks before r.
 unfoldable pub Marks : Stop → ℕ → Counts → ℕ → ℕ → List ℕ → List ℕ → Counts → ℕ → List ℕ → List ℕ → Type 0
 Marks s id c p g h m e p′ h′ m′ =
     (k t v : List ℕ) (A R : List Row) (r : Row) → Gap g p m t → Holds (four h k t v) c (A ++ r ∷ R) → s ≡ behind A

@@ -44,7 +44,8 @@ gap-run g p from n m t G h =
     let a : length (run from n m) ≡ n = run-length from n m (omega (arith, G .long, G .fits)) in
     let b : length (run from n t) ≡ n = run-length from n t (omega (arith, G .fits)) in
     ext-getD 0 (run from n m) (run from n t) (a ∙ sym b)
-    (λ j k. run-at from n j m (omega (arith, a, k)) ∙ (G .front (from + j) (omega (arith, a, k)) ∙ sym (run-at from n j t (omega (arith, a, k)))))
+    (λ j k. run-at from n j m (omega (arith, a, k))
+    ∙ (G .front (from + j) (omega (arith, a, k)) ∙ sym (run-at from n j t (omega (arith, a, k)))))
 
 -- The words of `opened`, one by one.
 module _ (live at n : ℕ) (t : List ℕ) (h : at ≤ live) (k : live + n ≤ length t) where

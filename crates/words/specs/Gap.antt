@@ -1,13 +1,14 @@
--- A table in lent memory with a gap in it. While several words are to be put into a table, one before another, a gap of as many words stands in
--- the memory; each word that is put in makes it one word smaller and moves it to the front, so that no word of the table is moved twice.
+-- A table in lent memory with a gap in it. While several words are to be put into a table, one before another, a gap of as many words
+-- stands in the memory; each word that is put in makes it one word smaller and moves it to the front, so that no word of the table is
+-- moved twice.
 -- Assumes nothing: these are definitions.
 use Prim.Native.Nat.{ℕ, _+_, _≤_, _<_}
 use mathlib.Core.Path.{_≡_}
 use mathlib.Core.List.{List}
 use lib.ListN.{length, getD}
 
--- Memory m is the table t but for a gap of g words from p on, which are any: the table's words before p stand where they are, those from p on
--- stand g places further on, and its last g words stand nowhere.
+-- Memory m is the table t but for a gap of g words from p on, which are any: the table's words before p stand where they are, those from
+-- p on stand g places further on, and its last g words stand nowhere.
 pub record Gap (g p : ℕ) (m t : List ℕ) : Type 0 where
   pub long : length m ≡ length t
   pub fits : p + g ≤ length t
