@@ -38,10 +38,11 @@ use Rattle.apply.specs.Doing.{marksBy, withMarks, Descends}
 use Rattle.apply.proofs.Gaps.{marks-most}
 use Rattle.apply.specs.declared.Act.{Act}
 use Rattle.operate.specs.Judging.{isTaken, readyVerdict, verdict, Stores, Newer, Parts, JudgesReady, Judges}
-use Rattle.operate.specs.Judging.{CarriesWay, CarriesOut, Applies}
+use Rattle.operate.specs.Judging.{CarriesWay, CarriesOut, TakesOn, Applies}
 use Rattle.operate.specs.declared.Judged.{Judged}
 use Rattle.operate.specs.declared.Judged.the-variants as J
 use Rattle.operate.specs.declared.Outcome.{Outcome}
+use Rattle.operate.specs.declared.Later.{Later}
 use Rattle.operate.proofs.Verdicts.{whole, first-behind, steps-whole, deed-whole, way-part, cut-short, parts-of}
 
 pub newer : (D : Document) (o : M.Operation) → repeated (D .seen) o ≡ false → Newer D o
@@ -174,21 +175,25 @@ raised-seen : (s : List ℕ) (o : M.Operation) → ValidOperation o → raised s
 unfolding raised
 raised-seen s o val = rw (le-leb (counterOf (o .id)) 4294967295 (val .id .high))
 
+pub takes-on : (T : Tables) (c : Counts) (seen : Counters) (op : Operation) (U : Tables) (e : Counts) (after : Counters)
+    → CarriesOut T c op e U → after .at ≡ raised (seen .at) (op .id) → TakesOn T c seen op (record { counts = e; seen = after }) U
+unfolding apply
+takes-on T c seen op U e after C r D o S m val y =
+    let k = verdict-taken o D y in
+    let n = newer D o (k .new) in
+    record {
+      rows = C D o (here-stores T c (seen .at) D S) m val n;
+      counters = r ∙ (ap₂ raised (S .counters) (m .id) ∙ raised-seen (D .seen) o val);
+      sound = sound-apply o D val n (S .sound);
+      limits = k .room;
+    }
+
 module _ (T : Tables) (c : Counts) (seen : Counters) (op : Operation) (a : Judged) (G : Judges T c seen op a) where
-  pub applies-taken : (U : Tables) (e : Counts) (after : Counters) → isTaken a ≡ true → CarriesOut T c op e U
-      → after .at ≡ raised (seen .at) (op .id) → Applies T c seen op (record { answer = a; counts = e; seen = after }) U
-  unfolding apply
-  applies-taken U e after t C r = record {
+  pub applies-taken : (U : Tables) (l : Later) → isTaken a ≡ true → TakesOn T c seen op l U
+      → Applies T c seen op (record { answer = a; counts = l .counts; seen = l .seen }) U
+  applies-taken U l t K = record {
     answers = G;
-    takes = λ D o S m val y.
-        let k = verdict-taken o D (ap isTaken (sym (G D o S m val)) ∙ t) in
-        let n = newer D o (k .new) in
-        record {
-          rows = C D o (here-stores T c (seen .at) D S) m val n;
-          counters = r ∙ (ap₂ raised (S .counters) (m .id) ∙ raised-seen (D .seen) o val);
-          sound = sound-apply o D val n (S .sound);
-          limits = k .room;
-        };
+    takes = λ D o S m val y. K D o S m val (ap isTaken (sym (G D o S m val)) ∙ t);
     refuses = λ y. absurd (true≢false (sym t ∙ y));
   }
 

@@ -31,6 +31,7 @@ use Rattle.apply.specs.declared.Act.{Act}
 use Rattle.operate.specs.declared.Judged.{Judged}
 use Rattle.operate.specs.declared.Judged.the-variants as J
 use Rattle.operate.specs.declared.Outcome.{Outcome}
+use Rattle.operate.specs.declared.Later.{Later}
 
 -- the numbers of memory that holds a document, and of an operation on it
 pub record Small (c : Counts) (w : Weight) : Type 0 where
@@ -115,6 +116,12 @@ CarriesWay T c a ks n e U =
 abbrev pub CarriesOut : Tables → Counts → Operation → Counts → Tables → Type 0
 CarriesOut T c op e U =
     (D : Document) (o : M.Operation) → Stores T c (D .seen) D → Means op o → ValidOperation o → Newer D o → Holds U e (rowsOf (apply o D))
+
+-- an operation that may be taken leaves the document that it makes
+abbrev pub TakesOn : Tables → Counts → Counters → Operation → Later → Tables → Type 0
+TakesOn T c seen op r U =
+    (D : Document) (o : M.Operation) → Stores T c (seen .at) D → Means op o → ValidOperation o → isTaken (verdict o D) ≡ true
+    → Stores U (r .counts) (r .seen .at) (apply o D)
 
 -- answer, document and every word; for any memory a refusal changes nothing
 pub record Applies (T : Tables) (c : Counts) (seen : Counters) (op : Operation) (r : Outcome) (U : Tables) : Type 0 where

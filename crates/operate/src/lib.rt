@@ -12,7 +12,7 @@ ghost use lib.ListN.{length, take};
 ghost use Rattle.tables.specs.Holding.{four};
 ghost use Rattle.tables.specs.Seek.{holdsIf};
 ghost use Rattle.operate.specs.Judging.{isTaken, Small, hasRoom, goesDown};
-ghost use Rattle.operate.specs.Judging.{JudgesWay, JudgesReady, Judges, CarriesWay, CarriesOut, Applies};
+ghost use Rattle.operate.specs.Judging.{JudgesWay, JudgesReady, Judges, CarriesWay, CarriesOut, TakesOn, Applies};
 
 // What an operation comes to: it is taken; it comes too early; or the refusals of document 01, by name.
 pub enum Judged {
@@ -28,6 +28,12 @@ pub enum Judged {
 
 pub struct Outcome {
     pub answer: Judged,
+    pub counts: Counts,
+    pub seen: Counters,
+}
+
+// The document's counts and counters after an operation that was taken.
+pub struct Later {
     pub counts: Counts,
     pub seen: Counters,
 }
@@ -285,7 +291,28 @@ fn is_taken(answer: Judged) -> bool
     }
 }
 
-// Judges an operation, and carries it out if it is taken. A refusal changes nothing.
+// Takes an operation that was judged so: carries it out, and raises seen.
+pub fn take(
+    heads: &mut [u64],
+    keys: &mut [u64],
+    marks: &mut [u64],
+    values: &mut [u64],
+    c: Counts,
+    seen: Counters,
+    op: Operation,
+) -> Later
+    ensures { λ r. ⌜ TakesOn (four (now (heads .entry)) (now (keys .entry)) (now (marks .entry)) (now (values .entry))) c seen op r
+        (four (now (heads .exit)) (now (keys .exit)) (now (marks .exit)) (now (values .exit))) ⌝ }
+{
+    let counts = carry_out(heads, keys, marks, values, c, op);
+    let after = counters::raise(seen, op.id);
+    Later {
+        counts,
+        seen: after,
+    }
+}
+
+// Judges an operation, and takes it if it may be. A refusal changes nothing.
 pub fn apply(
     heads: &mut [u64],
     keys: &mut [u64],
@@ -300,8 +327,9 @@ pub fn apply(
 {
     let answer = judge(heads, keys, marks, values, c, seen, op);
     if is_taken(answer) {
-        let counts = carry_out(heads, keys, marks, values, c, op);
-        let after = counters::raise(seen, op.id);
+        let later = take(heads, keys, marks, values, c, seen, op);
+        let counts = later.counts;
+        let after = later.seen;
         return Outcome {
             answer,
             counts,

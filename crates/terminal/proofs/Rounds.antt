@@ -16,8 +16,8 @@ use Rattle.theorems.specs.Members.{all-pass}
 use Rattle.theorems.specs.Settling.{left, rid, next, next-all}
 use Rattle.tables.specs.Words.{Tables}
 use Rattle.message.specs.declared.Operation as M
-use Rattle.operate.specs.Judging.{isTaken, verdict, Stores, Applies}
-use Rattle.operate.specs.declared.Outcome.{Outcome}
+use Rattle.operate.specs.Judging.{isTaken, verdict, Stores, TakesOn}
+use Rattle.operate.specs.declared.Later.{Later}
 use Rattle.waiting.specs.Waits.{Waits, Gone, Tells, TakesOut}
 use Rattle.waiting.proofs.Holds.{all-at}
 use Rattle.terminal.specs.declared.State.{State}
@@ -71,8 +71,8 @@ module _ (T : Tables) (t t₁ : List ℕ) (s : State) (w : Swept) (S : Sweeps T 
       rounds = λ X K. absurd (omega (arith, removed X K .fewer));
     }
 
-    module _ (op : M.Operation) (read : Tells t₁ (w .state .waiting) (w .able) op) (o : Outcome) (U : Tables)
-        (A : Applies T (w .state .counts) (w .state .seen) op o U)
+    module _ (op : M.Operation) (read : Tells t₁ (w .state .waiting) (w .able) op) (o : Later) (U : Tables)
+        (A : TakesOn T (w .state .counts) (w .state .seen) op o U)
       where
         -- what is known of the one that is applied
         alive : (X : Terminal) (K : Keeps T t s X) → dead (X .document) (one X K .one) ≡ false
@@ -96,7 +96,7 @@ module _ (T : Tables) (t t₁ : List ℕ) (s : State) (w : Swept) (S : Sweeps T 
             let d = S .sweeps X K .keeps .document in
             let m = read (q .ahead) (q .behind) (q .one) (placed X K) (q .place) in
             let v = sent X K .valid in
-            A .takes (X .document) (q .one) d m v (ap (λ z. isTaken z) (A .answers (X .document) (q .one) d m v) ∙ taken X K)
+            A (X .document) (q .one) d m v (taken X K)
 
         pub rounds-on : m < w .state .waiting
             → Rounds T t s

@@ -233,7 +233,7 @@ fn round(
     }
     let c = state.counts;
     let seen = state.seen;
-    let o = operate::apply(heads, keys, marks, values, c, seen, op);
+    let o = operate::take(heads, keys, marks, values, c, seen, op);
     let counts = o.counts;
     let after = o.seen;
     let next = State {

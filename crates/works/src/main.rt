@@ -1,7 +1,7 @@
-// The program that bench/works times. Plays a script of docs/REPLAY.md: the `receive` calls ahead of the first `save` build a terminal; then
-// come as many turns as the number of that `save` says. A turn takes a copy of the terminal, receives the messages behind the `save` and,
-// if a `save` ends the script, saves into a buffer of that many bytes. Says how many places, marks, values and waiting messages there are at
-// the end, and how many bytes the last save wrote.
+// The program that bench/works times. Plays a script of docs/REPLAY.md: the `receive` calls ahead of the first `save` build a terminal;
+// then come as many turns as the number of that `save` says. A turn takes a copy of the terminal, receives the messages behind the `save`
+// and, if a `save` ends the script, saves into a buffer of that many bytes. Says how many places, marks, values and waiting messages there
+// are at the end, and how many bytes the last save wrote.
 use libc::STDIN_FILENO;
 use libc::STDOUT_FILENO;
 use meaning::Saved;

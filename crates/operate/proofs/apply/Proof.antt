@@ -1,9 +1,14 @@
--- An operation is judged, and carried out if it is taken.
+-- An operation is judged, and taken if it may be. Assumes nothing.
 use mathlib.Core.Path.{sym, _∙_}
 use Rattle.operate.proofs.Carrying.{applies-taken, applies-refused}
 use borrow.Author.Needs.{needs}
 use Rattle.operate.proofs.apply.Statement.{statement}
 use Rattle.operate.proofs.apply.Tie as tie
+use Rattle.operate.proofs.apply.Reads as reads
+use Rattle.operate.proofs.apply.Lts as lts
+use Rattle.operate.proofs.is_taken.Reads as is-taken-reads
+use Rattle.operate.proofs.judge.Reads as judge-reads
+use Rattle.operate.proofs.take.Reads as take-reads
 
 judge-requires : tie.Need-judge-requires
 judge-requires c κs = search needs
@@ -11,11 +16,8 @@ judge-requires c κs = search needs
 is-taken-requires : tie.Need-is-taken-requires
 is-taken-requires c κs = search needs
 
-carry-out-requires : tie.Need-carry-out-requires
-carry-out-requires c κs = search needs
-
-raise-requires : tie.Need-raise-requires
-raise-requires c κs = search needs
+take-requires : tie.Need-take-requires
+take-requires c κs = search needs
 
 same-length : tie.Need-same-length
 same-length c = search needs
@@ -30,8 +32,7 @@ same-length-4 : tie.Need-same-length-4
 same-length-4 c = search needs
 
 returns : tie.Need-returns
-returns c =
-    applies-taken _ _ _ (c .before .before .before .before .before .before .before .before .before .before .before .before .before .before .before .before .before .before .before .before .before .before .before .before .before .args .op) _ (c .before .before .before .before .before .before .before .before .before .before .before .before .before .before .before .before .judge .ensures) _ _ _ (sym (c .before .before .before .before .before .before .before .before .before .before .before .before .before .before .before .is-taken .ensures) ∙ c .before .before .before .before .before .before .before .before .before .before .before .before .before .before .if1 .taken) (c .before .before .before .before .before .before .before .before .before .carry-out .ensures) (c .raise .ensures)
+returns c = applies-taken _ _ _ (c .before .before .before .before .before .before .before .before .before .before .before .before .before .before .before .before .before .before .before .before .before .before .before .before .before .before .args .op) _ (c .before .before .before .before .before .before .before .before .before .before .before .before .before .before .before .before .before .judge .ensures) _ (c .before .before .before .before .before .before .before .before .before .before .take .result) (sym (c .before .before .before .before .before .before .before .before .before .before .before .before .before .before .before .before .is-taken .ensures) ∙ c .before .before .before .before .before .before .before .before .before .before .before .before .before .before .before .if1 .taken) (c .before .before .before .before .before .before .before .before .before .before .take .ensures)
 
 same-length-5 : tie.Need-same-length-5
 same-length-5 c = search needs
@@ -54,8 +55,7 @@ apply-spec =
     (tie.spec
     judge-requires
     is-taken-requires
-    carry-out-requires
-    raise-requires
+    take-requires
     same-length
     same-length-2
     same-length-3

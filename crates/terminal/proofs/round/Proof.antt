@@ -54,8 +54,8 @@ same-length-10 c = search needs
 returns-2 : tie.Need-returns-2
 returns-2 c = rounds-cut _ _ _ _ _ (c .before .before .before .before .before .before .before .before .before .before .before .before .before .sweep .ensures) (not-false _ (c .before .before .before .before .before .before .before .if1 .left)) _ _ (c .before .before .before .take-out .ensures) (c .if2 .taken)
 
-apply-requires : tie.Need-apply-requires
-apply-requires c κs = search needs
+take-requires : tie.Need-take-requires
+take-requires c κs = search needs
 
 same-length-11 : tie.Need-same-length-11
 same-length-11 c = search needs
@@ -74,7 +74,7 @@ same-length-15 c = omega (arith, c .before .before .before .before .before .befo
 
 returns-3 : tie.Need-returns-3
 returns-3 c =
-    rounds-on _ _ _ _ _ (c .before .before .before .before .before .before .before .before .before .before .before .before .before .before .before .before .before .before .before .before .before .before .before .before .before .before .before .before .before .before .sweep .ensures) (not-false _ (c .before .before .before .before .before .before .before .before .before .before .before .before .before .before .before .before .before .before .before .before .before .before .before .before .if1 .left)) _ _ (c .before .before .before .before .before .before .before .before .before .before .before .before .before .before .before .before .before .before .before .before .take-out .ensures) _ (c .before .before .before .before .before .before .before .before .before .before .before .before .before .before .before .before .before .before .before .before .before .before .op-at .ensures) _ _ (c .before .before .before .before .before .before .before .before .before .before .apply .ensures) (c .before .before .before .before .before .before .before .before .before .before .before .before .before .before .before .before .before .if2 .left)
+    rounds-on _ _ _ _ _ (c .before .before .before .before .before .before .before .before .before .before .before .before .before .before .before .before .before .before .before .before .before .before .before .before .before .before .before .before .before .before .sweep .ensures) (not-false _ (c .before .before .before .before .before .before .before .before .before .before .before .before .before .before .before .before .before .before .before .before .before .before .before .before .if1 .left)) _ _ (c .before .before .before .before .before .before .before .before .before .before .before .before .before .before .before .before .before .before .before .before .take-out .ensures) _ (c .before .before .before .before .before .before .before .before .before .before .before .before .before .before .before .before .before .before .before .before .before .before .op-at .ensures) _ _ (c .before .before .before .before .before .before .before .before .before .before .take .ensures) (c .before .before .before .before .before .before .before .before .before .before .before .before .before .before .before .before .before .if2 .left)
 
 pub round-spec : {M : Type 1} → statement M
 round-spec =
@@ -96,7 +96,7 @@ round-spec =
     same-length-9
     same-length-10
     returns-2
-    apply-requires
+    take-requires
     same-length-11
     same-length-12
     same-length-13
