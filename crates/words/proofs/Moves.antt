@@ -54,31 +54,6 @@ lower-step from n to i t₀ t h k q L =
     laying-step to i (run from n t₀) t₀ t (omega arith) (omega arith) L _
     (laying-read to i (run from n t₀) t₀ t (omega arith) (omega arith) L (from + i) (omega arith) ∙ sym (run-at from n i t₀ q))
 
--- Four at once: they are read before the first is written.
-module _ (from n to i : ℕ) (t₀ t : List ℕ) (h : to ≤ from) (k : from + n ≤ length t₀) (q : i + 4 ≤ n) (L : Laying to i (run from n t₀) t₀ t) where
-  abbrev S : List ℕ
-  S = run from n t₀
-
-  -- a word further up is as it was
-  read : (m j : ℕ) → i ≤ m → m < n → j ≡ from + m → getD t j 0 ≡ getD S m 0
-  read m j u w e =
-      let l = run-length from n t₀ k in
-      rw e (laying-read to i S t₀ t (omega arith) (omega arith) L (from + m) (omega arith) ∙ sym (run-at from n m t₀ w))
-
-  put : (m j m′ v : ℕ) (s : List ℕ) → m < n → j ≡ to + m → m′ ≡ m + 1 → v ≡ getD S m 0 → Laying to m S t₀ s → Laying to m′ S t₀ (set s j v)
-  put m j m′ v s w e f g M =
-      let l = run-length from n t₀ k in
-      rw (e, f) (laying-step to m S t₀ s (omega arith) (omega arith) M v g)
-
-  pub lower-four : Laying to (i + 4) (run from n t₀) t₀
-      (set (set (set (set t (to + i) (getD t (from + i) 0)) (to + i + 1) (getD t (from + i + 1) 0)) (to + i + 2) (getD t (from + i + 2) 0))
-      (to + i + 3) (getD t (from + i + 3) 0))
-  lower-four =
-      put (i + 3) _ _ _ _ (omega arith) (omega arith) (omega arith) (read (i + 3) _ (omega arith) (omega arith) (omega arith))
-      (put (i + 2) _ _ _ _ (omega arith) (omega arith) (omega arith) (read (i + 2) _ (omega arith) (omega arith) (omega arith))
-      (put (i + 1) _ _ _ _ (omega arith) (omega arith) (omega arith) (read (i + 1) _ (omega arith) (omega arith) (omega arith))
-      (put i _ _ _ _ (omega arith) refl refl (read i _ (omega arith) (omega arith) refl) L)))
-
 pub lower-done : (from n to i : ℕ) (t₀ t : List ℕ) → from + n ≤ length t₀ → n ≤ i → Laying to i (run from n t₀) t₀ t
     → t ≡ overAt to (run from n t₀) t₀
 lower-done from n to i t₀ t k q L =

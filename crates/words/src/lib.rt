@@ -26,28 +26,16 @@ pub fn open(t: &mut [u64], live: usize, at: usize, n: usize)
     }
 }
 
-// Copies the n words from `from` on down to `to`, four at a time, so that the compiler can move them together.
+// Copies the n words from `from` on down to `to`.
 pub fn lower(t: &mut [u64], from: usize, n: usize, to: usize)
     requires { ⌜ (to ≤ from) × (from + n ≤ length (now t)) ⌝ }
     ensures { λ _. ⌜ now (t .exit) ≡ overAt to (run from n (now (t .entry))) (now (t .entry)) ⌝ }
 {
     let mut i: usize = 0;
     while i < n {
-        if n - i >= 4 {
-            let a = t[from + i];
-            let b = t[from + i + 1];
-            let c = t[from + i + 2];
-            let d = t[from + i + 3];
-            t[to + i] = a;
-            t[to + i + 1] = b;
-            t[to + i + 2] = c;
-            t[to + i + 3] = d;
-            i += 4;
-        } else {
-            let x = t[from + i];
-            t[to + i] = x;
-            i += 1;
-        }
+        let x = t[from + i];
+        t[to + i] = x;
+        i += 1;
     }
 }
 
