@@ -124,7 +124,8 @@ fn refusal(j: Judged) -> Receipt
     }
 }
 
-// The verdict on the operation that waits at i. One that isn't ready is judged by its id and deps alone.
+// The verdict on the operation that waits at i. The id and one entry of deps tell of most that they aren't ready: only where that entry is
+// the seen one are the others read, and only of a ready one the rest.
 fn look(
     heads: &[u64],
     keys: &[u64],
@@ -141,14 +142,19 @@ fn look(
     let seen = s.seen;
     let counts = s.counts;
     let id = waiting::id_at(waiting, n, i);
-    let deps = waiting::deps_at(waiting, n, i);
     if counters::repeated(seen, id) {
         return Judged::Repeat;
     }
-    if counters::crossed(seen, id, deps) {
+    let own = waiting::own_at(waiting, n, i);
+    let last = counters::entry(seen, id % 8);
+    if own < last {
         return Judged::OwnDeps;
     }
-    if !counters::ready(seen, id, deps) {
+    if last < own {
+        return Judged::Early;
+    }
+    let deps = waiting::deps_at(waiting, n, i);
+    if !counters::at_most(deps, seen) {
         return Judged::Early;
     }
     let op = waiting::op_at(waiting, n, i);

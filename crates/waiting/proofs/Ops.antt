@@ -67,6 +67,11 @@ module _ (id : ℕ) (deps keys : List ℕ) (n : ℕ) (d : Deed) (value : List �
   row-deps : run 1 8 (rowWords id deps keys n d value) ≡ deps
   row-deps = run-parts (id ∷ []) deps (keys ++ (n ∷ deedCode d ∷ deedNumber d ∷ value)) 1 8 refl e
 
+  row-entry : (k : ℕ) → k < 8 → getD (rowWords id deps keys n d value) (1 + k) 0 ≡ getD deps k 0
+  row-entry k h =
+      let R : List ℕ = keys ++ (n ∷ deedCode d ∷ deedNumber d ∷ value) in
+      getD-append-add (id ∷ []) (deps ++ R) k 0 ∙ List·getD-append deps R 0 k (omega arith)
+
   row-keys : run 9 24 (rowWords id deps keys n d value) ≡ keys
   row-keys = run-parts (id ∷ deps) keys (n ∷ deedCode d ∷ deedNumber d ∷ value) 9 24 (omega arith) f
 
@@ -160,6 +165,13 @@ module _ (X Y : List ℕ) (o : Operation) (at : ℕ) (e : length X ≡ at) (v : 
             (deedWords (o .way)) (pad-long 8 (o .deps)) (pad-long 24 _),
         pad-same 8 (o .deps) (v .deps .eight),
       ) (counters-same (o .deps) (v .deps .each))
+
+  pub entry-there : (k : ℕ) → k < 8 → getD (X ++ (opWords o ++ Y)) (at + (1 + k)) 0 ≡ getD (o .deps) k 0
+  unfolding opWords
+  entry-there k h =
+      get-inside X (opWords o) Y at e (1 + k) (omega (arith, op-long o))
+      ∙ (row-entry (o .id) (pad 8 (o .deps)) (pad 24 (keyWords (o .top) ++ wayWords (o .way))) (suc (steps (o .way))) (deedOf (o .way))
+      (deedWords (o .way)) (pad-long 8 (o .deps)) (pad-long 24 _) k h ∙ ap (λ d. getD d k 0) (pad-same 8 (o .deps) (v .deps .eight)))
 
   -- the words of the row at j
   number-there : (j : ℕ) → j < 3

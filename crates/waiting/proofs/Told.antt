@@ -1,6 +1,6 @@
 -- What the functions over the table come to, from what the parts of their code leave.
 -- Assumes nothing.
-use Prim.Native.Nat.{ℕ, _+_, _*_, _-_, _≤_, _<_}
+use Prim.Native.Nat.{ℕ, _+_, _*_, _-_, _%_, _≤_, _<_}
 use mathlib.Core.Path.{_≡_, refl, sym, ap, _∙_}
 use mathlib.Core.Bool.{false}
 use mathlib.Core.List.{List, _∷_, _++_}
@@ -15,8 +15,8 @@ use Rattle.words.specs.Rows.{rankRows, rankOf, flat, Ranked}
 use Rattle.words.proofs.Over.{open-write}
 use Rattle.message.specs.declared.Operation as M
 use Rattle.waiting.specs.Rows.{counters, rowWords, opWords, ReadsRow}
-use Rattle.waiting.specs.Waits.{room, idOf, Waits, TellsId, TellsDeps, Tells, TellsWaits, Puts, TakesOut}
-use Rattle.waiting.proofs.Ops.{op-long, means-words, id-there, deps-there, row-means}
+use Rattle.waiting.specs.Waits.{room, idOf, Waits, TellsId, TellsOwn, TellsDeps, Tells, TellsWaits, Puts, TakesOut}
+use Rattle.waiting.proofs.Ops.{op-long, means-words, id-there, entry-there, deps-there, row-means}
 use Rattle.waiting.proofs.Holds.{table-long, rank-is, behind, there, before-long, all-at, taken-out, waits-past, waits-at, put-in}
 
 module _ (t : List ℕ) (n i : ℕ) where
@@ -27,6 +27,14 @@ module _ (t : List ℕ) (n i : ℕ) where
   unfolding TellsId
   tells-id r q A R o W e =
       q ∙ rw (there t n i A R o W e) (id-there (flat opWords A) (behind A o R) o (40 * i) (before-long t n i A R o W e) (valid-there A R o W))
+
+  pub tells-own : (r : ℕ) → r ≡ getD t (40 * i + 1 + getD t (40 * i) 0 % 8) 0 → TellsOwn t n i r
+  unfolding TellsOwn
+  tells-own r q A R o W e =
+      let d = id-there (flat opWords A) (behind A o R) o (40 * i) (before-long t n i A R o W e) (valid-there A R o W) in
+      let a : 40 * i + 1 + o .id % 8 ≡ 40 * i + (1 + o .id % 8) = omega arith in
+      q ∙ rw (there t n i A R o W e, d, a)
+      (entry-there (flat opWords A) (behind A o R) o (40 * i) (before-long t n i A R o W e) (valid-there A R o W) (o .id % 8) (omega arith))
 
   pub tells-deps : (r : List ℕ) → r ≡ counters (run (40 * i + 1) 8 t) → TellsDeps t n i r
   unfolding TellsDeps

@@ -7,6 +7,7 @@ use mathlib.Core.Bool.{Bool, false}
 use mathlib.Core.List.{List, _∷_, _++_}
 use mathlib.Core.Logic.{_⊎_}
 use lib.ListN.{length}
+use Rattle.meaning.specs.Ids.{entryOf, entry}
 use Rattle.meaning.specs.Members.{All, Ascending}
 use Rattle.meaning.specs.Receive.{waits}
 use Rattle.meaning.specs.Sets.{put}
@@ -36,6 +37,10 @@ pub record Waits (t : List ℕ) (n : ℕ) (os : List Operation) : Type 0 where
 -- the operation at i
 unfoldable pub TellsId : List ℕ → ℕ → ℕ → ℕ → Type 0
 TellsId t n i r = (A R : List Operation) (o : Operation) → Waits t n (A ++ o ∷ R) → i ≡ length A → r ≡ o .id
+
+unfoldable pub TellsOwn : List ℕ → ℕ → ℕ → ℕ → Type 0
+TellsOwn t n i r =
+    (A R : List Operation) (o : Operation) → Waits t n (A ++ o ∷ R) → i ≡ length A → r ≡ entry (o .deps) (entryOf (o .id))
 
 unfoldable pub TellsDeps : List ℕ → ℕ → ℕ → List ℕ → Type 0
 TellsDeps t n i r = (A R : List Operation) (o : Operation) → Waits t n (A ++ o ∷ R) → i ≡ length A → r ≡ o .deps

@@ -12,7 +12,7 @@ use row::write_row;
 use words::close;
 use words::open;
 use words::rank_rows;
-ghost use Rattle.waiting.specs.Waits.{TellsId, TellsDeps, Tells, TellsWaits, Puts, TakesOut};
+ghost use Rattle.waiting.specs.Waits.{TellsId, TellsOwn, TellsDeps, Tells, TellsWaits, Puts, TakesOut};
 
 // The id of the operation at i.
 pub fn id_at(t: &[u64], n: usize, i: usize) -> u64
@@ -28,6 +28,23 @@ pub fn id_at(t: &[u64], n: usize, i: usize) -> u64
         return 0;
     }
     t[40 * i]
+}
+
+// Of its deps the entry of its own terminal.
+pub fn own_at(t: &[u64], n: usize, i: usize) -> u64
+    ensures { λ r. ⌜ TellsOwn (now (t .entry)) n i r ⌝ }
+{
+    if t.len() < 2560 {
+        return 0;
+    }
+    if n > 64 {
+        return 0;
+    }
+    if i >= n {
+        return 0;
+    }
+    let own = (t[40 * i] % 8) as usize;
+    t[40 * i + 1 + own]
 }
 
 // Its deps.
