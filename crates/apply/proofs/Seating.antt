@@ -91,7 +91,8 @@ module _ (n i hi len rows : ℕ) (from : Stop) (h k : List ℕ) where
             let d = P k m v c (A ++ W) X x S s in
             let e₂ : ((A ++ W) ++ x ∷ []) ++ X ≡ (A ++ W) ++ x ∷ X = append-assoc (A ++ W) (x ∷ []) X in
             let f = G m v c ((A ++ W) ++ x ∷ []) X _ (subst (Holds (four h k m v) c) (sym e₂) S) r d (seat-agrees n i) in
-            let e₃ : ((A ++ W) ++ x ∷ []) ++ g X ≡ A ++ (W ++ x ∷ g X) = append-assoc (A ++ W) (x ∷ []) (g X) ∙ append-assoc A W (x ∷ g X) in
+            let e₃ : ((A ++ W) ++ x ∷ []) ++ g X ≡ A ++ (W ++ x ∷ g X) = append-assoc (A ++ W) (x ∷ []) (g X) ∙ append-assoc A W
+            (x ∷ g X) in
             let e₄ : B ≡ (W ++ x ∷ g X) ++ rest (over n (isGreater i)) X =
             sym (passed-rest (other hi) B) ∙ (ap (W ++_) (q ∙ ap (x ∷_) (sym (passed-rest (over n (isGreater i)) X)))
             ∙ sym (append-assoc W (x ∷ g X) (rest (over n (isGreater i)) X))) in

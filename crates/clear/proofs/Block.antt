@@ -134,7 +134,8 @@ module _ (c : Counts) (y : Pass) (B us : List Row) (G : Gaps c y B us) where
       ∙ (ap (λ l. marksOf B ++ (marksOf us ++ l)) (replicate-append-replicate (length (G .gap)) z 0)
       ∙ (sym (append-assoc (marksOf B) (marksOf us) (replicate (length (G .gap) + z) 0))
       ∙ (ap (_++ replicate (length (G .gap) + z) 0) (sym (marks-of-append B us))
-      ∙ pad-from marksRoom (length (G .gap) + z) (marksOf (B ++ us)) (omega (arith, G .marked-is, G .mark-is, G .marks-are, G .marks-fit))))))
+      ∙ pad-from marksRoom (length (G .gap) + z) (marksOf (B ++ us))
+      (omega (arith, G .marked-is, G .mark-is, G .marks-are, G .marks-fit))))))
 
   values-closed : closed 0 (c .values * 6) (y .at .value) (y .at .valued) (y .values) ≡ pad valuesRoom (valuesOf (B ++ us))
   values-closed =

@@ -120,7 +120,8 @@ module _ (d : List ℕ) (rows n left : ℕ) (x y z : Pass) (W : Walks d rows n l
       let D : List Row = passed (deeper (r .depth)) todo in
       let E : List Row = rest (deeper (r .depth)) todo in
       let g : A ++ map (clearRow d) (done ++ r ∷ D) ≡ (A ++ map (clearRow d) done) ++ clearRow d r ∷ map (clearRow d) D =
-      ap (A ++_) (map-append (clearRow d) done (r ∷ D)) ∙ sym (append-assoc A (map (clearRow d) done) (clearRow d r ∷ map (clearRow d) D)) in
+      ap (A ++_) (map-append (clearRow d) done (r ∷ D)) ∙ sym
+      (append-assoc A (map (clearRow d) done) (clearRow d r ∷ map (clearRow d) D)) in
       record {
         done = done ++ r ∷ D;
         todo = E;

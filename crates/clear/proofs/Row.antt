@@ -1,4 +1,5 @@
--- What `clear_row` leaves, whatever the tables hold: a row that says more words than there are is gone over, any other cleared (proofs/Steps).
+-- What `clear_row` leaves, whatever the tables hold: a row that says more words than there are is gone over, any other cleared
+-- (proofs/Steps).
 -- Assumes nothing.
 use Prim.Native.Nat.{ℕ, _+_, _*_, _-_, _/_, _%_, _≤_, _<_}
 use native.Mathlib.Omega.{arith}

@@ -66,7 +66,8 @@ module _ (c : Counts) (h m v : List ℕ) (p : Cursor) (A us : List Row) (r : Row
 
   values-here : length (valuesOf (r ∷ us)) ≡ length (r .values) * 6 + length (valuesOf us)
   values-here =
-      ap length values-behind ∙ (length-append (eachValue (r .values)) (valuesOf us) ∙ ap (_+ length (valuesOf us)) (each-length (r .values)))
+      ap length values-behind ∙ (length-append (eachValue (r .values)) (valuesOf us) ∙ ap (_+ length (valuesOf us))
+      (each-length (r .values)))
 
   pub narrow-here : Narrow r
   narrow-here = record {
@@ -108,7 +109,8 @@ module _ (c : Counts) (h m v : List ℕ) (p : Cursor) (A us : List Row) (r : Row
 
   pub marks-kept : (d : List ℕ) → keep (uncovered d) (run (p .mark) (length (r .marks)) m) ≡ clearMarks d (r .marks)
   unfolding clearMarks
-  marks-kept d = rw (marks-split) (ap (keep (uncovered d)) (run-parts (marksOf A ++ G .gap) (r .marks) _ (p .mark) (length (r .marks)) marks-before refl))
+  marks-kept d = rw (marks-split) (ap (keep (uncovered d))
+      (run-parts (marksOf A ++ G .gap) (r .marks) _ (p .mark) (length (r .marks)) marks-before refl))
 
   pub values-kept : (d : List ℕ)
       → keepRows 6 (uncovered d) (length (r .values)) (drop (p .value) v) ≡ eachValue (clearValues d (r .values))
@@ -116,7 +118,8 @@ module _ (c : Counts) (h m v : List ℕ) (p : Cursor) (A us : List Row) (r : Row
   values-kept d =
       let Y : List ℕ = valuesOf us ++ replicate (valuesRoom - c .values * 6) 0 in
       ap (λ l. keepRows 6 (uncovered d) (length (r .values)) (drop (p .value) l)) values-split
-      ∙ (ap (keepRows 6 (uncovered d) (length (r .values))) (drop-at (valuesOf A ++ G .gap-values) (eachValue (r .values) ++ Y) (p .value) values-before)
+      ∙ (ap (keepRows 6 (uncovered d) (length (r .values)))
+      (drop-at (valuesOf A ++ G .gap-values) (eachValue (r .values) ++ Y) (p .value) values-before)
       ∙ (ap (λ l. keepRows 6 (uncovered d) (length (r .values)) (l ++ Y)) (each-flat (r .values))
       ∙ (flat-keep 6 valueWords idOfValue strides-value (uncovered d) (r .values) Y ∙ sym (each-flat _))))
 
@@ -152,7 +155,13 @@ module _ (c : Counts) (h m v : List ℕ) (p : Cursor) (A us : List Row) (r : Row
 
     pub row-cleared : (h′ : List ℕ) (q : Cursor)
         → h′ ≡ set h (p .row) (headWord r % 128 + 128 * (to - p .marked) + 262144 * ((end - p .valued) / 6))
-        → q ≡ record { row = p .row + 1; mark = p .mark + length (r .marks); marked = to; value = p .value + length (r .values) * 6; valued = end }
+        → q ≡ record {
+          row = p .row + 1;
+          mark = p .mark + length (r .marks);
+          marked = to;
+          value = p .value + length (r .values) * 6;
+          valued = end;
+        }
         → Gapped c h′ m′ v′ q (A ++ clearRow d r ∷ []) us
     unfolding gap′ gap-values′
     row-cleared h′ q e f =
@@ -170,13 +179,33 @@ module _ (c : Counts) (h m v : List ℕ) (p : Cursor) (A us : List Row) (r : Row
         record {
           gap = gap′;
           gap-values = gap-values′;
-          heads = e ∙ (rw (G .heads ∙ heads-parts A r us (replicate (headsRoom - c .rows) 0), counts-right, append-assoc A (clearRow d r ∷ []) us)
-              (set-at (headsOf A) (headWord r) (headsOf us ++ replicate (headsRoom - c .rows) 0) (headWord (clearRow d r)) (p .row) (heads-length A ∙ sym (G .row-is))
+          heads = e ∙ (rw (
+            G .heads ∙ heads-parts A r us (replicate (headsRoom - c .rows) 0),
+            counts-right,
+            append-assoc A
+                (clearRow d r ∷ []) us,
+          )
+              (set-at (headsOf A) (headWord r) (headsOf us ++ replicate (headsRoom - c .rows) 0) (headWord (clearRow d r)) (p .row)
+              (heads-length A ∙ sym (G .row-is))
               ∙ sym (heads-parts A (clearRow d r) us (replicate (headsRoom - c .rows) 0))));
-          marks = K .table ∙ (rw (G .marks, marks-behind, append-assoc (r .marks) (marksOf us) (replicate (marksRoom - c .marks) 0), marks-after d)
-              (keep-gap (marksOf A) (G .gap) (r .marks) (marksOf us ++ replicate (marksRoom - c .marks) 0) (clearMarks d (r .marks)) (p .marked) (sym (G .marked-is)) (omega arith)));
-          values = L .table ∙ (rw (G .values, values-behind, append-assoc (eachValue (r .values)) (valuesOf us) (replicate (valuesRoom - c .values * 6) 0), values-after d)
-              (keep-gap (valuesOf A) (G .gap-values) (eachValue (r .values)) (valuesOf us ++ replicate (valuesRoom - c .values * 6) 0) (eachValue (clearValues d (r .values))) (p .valued) (sym (G .valued-is)) (omega arith)));
+          marks = K .table ∙ (rw (
+            G .marks,
+            marks-behind,
+            append-assoc (r .marks) (marksOf us) (replicate (marksRoom - c .marks) 0),
+            marks-after d,
+          )
+              (keep-gap (marksOf A) (G .gap) (r .marks) (marksOf us ++ replicate (marksRoom - c .marks) 0) (clearMarks d (r .marks))
+              (p .marked) (sym (G .marked-is)) (omega arith)));
+          values = L .table ∙ (rw (
+            G .values,
+            values-behind,
+            append-assoc (eachValue (r .values)) (valuesOf us)
+                (replicate (valuesRoom - c .values * 6) 0),
+            values-after d,
+          )
+              (keep-gap (valuesOf A) (G .gap-values) (eachValue (r .values))
+              (valuesOf us ++ replicate (valuesRoom - c .values * 6) 0) (eachValue (clearValues d (r .values))) (p .valued)
+              (sym (G .valued-is)) (omega arith)));
           row-is = omega (arith, length-append A (clearRow d r ∷ []), G .row-is);
           marked-is = omega (arith, K .next, G .marked-is);
           mark-is = omega (arith, K .next, G .mark-is);

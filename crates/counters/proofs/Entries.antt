@@ -1,4 +1,5 @@
--- The loops over eight entries: what is asked of all of them is what is asked of those from k on, as long as the entries before k decide nothing.
+-- The loops over eight entries: what is asked of all of them is what is asked of those from k on, as long as the entries before k
+-- decide nothing.
 -- Each test has its law for an entry that decides nothing (`goes`), for one that decides (`stops`), and for the end (`ends`).
 -- Assumes nothing.
 use Prim.Native.Nat.{ℕ, _+_, _≤_, _<_, max}
@@ -14,7 +15,8 @@ use lib.Seq.{drop-cons}
 use Rattle.meaning.specs.Ids.{entry, atMost, allBelow}
 use Rattle.meaning.specs.Edit.{largest, spent}
 
--- Owning a `Counters` says that its list, written as the logic does, has eight entries: `c .good .0 .1 .1 .0 .1 .0 .1` of a first parameter.
+-- Owning a `Counters` says that its list, written as the logic does, has eight entries: `c .good .0 .1 .1 .0 .1 .0 .1` of a first
+-- parameter.
 pub eight : (l : List ℕ) → length (map (λ v. v) l) ≡ 8 → length l ≡ 8
 eight l e = sym (length-map l (λ v. v)) ∙ e
 

@@ -1,4 +1,5 @@
--- Laws of layouts: texts one behind another, a fixed text, and two layouts with the same texts. A reader of a text that is made of parts cites
+-- Laws of layouts: texts one behind another, a fixed text, and two layouts with the same texts. A reader of a text that is made of
+-- parts cites
 -- these: what it takes, and what it refuses.
 -- Assumes nothing.
 use Prim.Native.Nat.{ℕ, _≤_}
@@ -28,14 +29,16 @@ module _ {X Y : Type 0} where
     pub no-first : Never A s a → Never (then A B) s a
     no-first h = record {
       not = λ p t ok st e.
-          h .not (p .0) (B .text (p .1) ++ t) (ok .0) (follows (p .0) (p .1) t (ok .1) st) (e ∙ append-assoc (A .text (p .0)) (B .text (p .1)) t);
+          h .not (p .0) (B .text (p .1) ++ t) (ok .0) (follows (p .0) (p .1) t (ok .1) st)
+          (e ∙ append-assoc (A .text (p .0)) (B .text (p .1)) t);
     }
 
     module _ (x : X) (n : ℕ) (k : Took A s a x n) where
       past : (p : X × Y) (t : List ℕ) → then A B .Valid p → B .More (p .1) t → drop a s ≡ then A B .text p ++ t
           → (p .0 ≡ x) × (B .text (p .1) ++ t ≡ drop n s)
       past p t ok st e =
-          k .only (p .0) (B .text (p .1) ++ t) (ok .0) (follows (p .0) (p .1) t (ok .1) st) (e ∙ append-assoc (A .text (p .0)) (B .text (p .1)) t)
+          k .only (p .0) (B .text (p .1) ++ t) (ok .0) (follows (p .0) (p .1) t (ok .1) st)
+          (e ∙ append-assoc (A .text (p .0)) (B .text (p .1)) t)
 
       pub no-second : Never B s n → Never (then A B) s a
       no-second h = record { not = λ p t ok st e. h .not (p .1) t (ok .1) st (sym (past p t ok st e .1)) }
@@ -99,7 +102,8 @@ pub record Case {X Y : Type 0} (p : List ℕ) (L : Layout X) (M : Layout Y) : Ty
   pub more : (x : X) (t : List ℕ) → L .More x t → M .More (make x) t
   pub kind : (y : Y) → Kind p L M make y
 
-module _ {X Y : Type 0} (p : List ℕ) (L : Layout X) (M : Layout Y) (c : Case p L M) (s : List ℕ) (a b : ℕ) (h : Took (fixed p) s a tt b) where
+module _ {X Y : Type 0} (p : List ℕ) (L : Layout X) (M : Layout Y) (c : Case p L M) (s : List ℕ) (a b : ℕ)
+    (h : Took (fixed p) s a tt b) where
   behind : (y : Y) (x : X) (t : List ℕ) → y ≡ c .make x → drop a s ≡ M .text y ++ t → drop b s ≡ L .text x ++ t
   behind y x t q e =
       cancel p (drop b s) (L .text x ++ t)
@@ -117,7 +121,8 @@ module _ {X Y : Type 0} (p : List ℕ) (L : Layout X) (M : Layout Y) (c : Case p
         only = λ y t ok m e. go y t ok m e (c .kind y);
       }
     where
-      go : (y : Y) (t : List ℕ) → M .Valid y → M .More y t → drop a s ≡ M .text y ++ t → Kind p L M (c .make) y → (y ≡ c .make x) × (t ≡ drop n s)
+      go : (y : Y) (t : List ℕ) → M .Valid y → M .More y t → drop a s ≡ M .text y ++ t → Kind p L M (c .make) y → (y ≡ c .make x)
+          × (t ≡ drop n s)
       go y t ok m e (this z q v w) = let r = k .only z t (v ok) (w t m) (behind y z t q e) in (q ∙ ap (c .make) (r .0), r .1)
       go y t ok m e (other f) = absurd (f t (drop b s) (sym e ∙ h .text))
 

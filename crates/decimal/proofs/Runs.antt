@@ -73,14 +73,22 @@ module _ (max : ℕ) (s : List ℕ) (a i v : ℕ) (r : Run max s a i v) where
       let l : digits (suc (i - a)) (v * 10 + d) ≡ digits (i - a) v ++ ((byte "0" + (v * 10 + d) % 10) ∷ []) =
       digits-last (i - a) (v * 10 + d) ∙ ap (λ y. digits (i - a) y ++ ((byte "0" + (v * 10 + d) % 10) ∷ [])) q in (
         r .text
-            ∙ (ap (λ t. digits (i - a) v ++ t) (drop-cons s i 0 (x .inside) ∙ (ap (λ y. y ∷ drop (suc i) s) c ∙ ap (λ k. (byte "0" + (v * 10 + d) % 10) ∷ drop k s) m))
+            ∙ (ap (λ t. digits (i - a) v ++ t) (drop-cons s i 0 (x .inside)
+            ∙ (ap (λ y. y ∷ drop (suc i) s) c ∙ ap (λ k. (byte "0" + (v * 10 + d) % 10) ∷ drop k s) m))
             ∙ (sym (append-assoc (digits (i - a) v) ((byte "0" + (v * 10 + d) % 10) ∷ []) (drop (i + 1) s))
             ∙ (ap (λ t. t ++ drop (i + 1) s) (sym l) ∙ ap (λ k. digits k (v * 10 + d) ++ drop (i + 1) s) n))),
         subst (λ (k : ℕ). v * 10 + d < 10 ^ k) n (omega (arith, pow-suc 10 (i - a), r .fits, x .digit, x .high)),
       )
 
   pub more : (d : ℕ) → Next s i d → v * 10 + d ≤ max → Run max s a (i + 1) (v * 10 + d)
-  more d x h = let l = longer d x in record { from = omega (arith, r .from); text = l .0; fits = l .1; most = h; within = λ k. omega (arith, x .inside) }
+  more d x h = let l = longer d x in record {
+    from = omega (arith, r .from);
+    text = l .0;
+    fits = l .1;
+    most = h;
+    within = λ k. omega
+        (arith, x .inside);
+  }
 
   -- with one digit more the number is above max, and so is every number that goes on so
   pub above : (d : ℕ) → Next s i d → max < v * 10 + d → Never (numbers 0 max) s a
@@ -107,7 +115,8 @@ module _ (max : ℕ) (s : List ℕ) (a i v : ℕ) (r : Run max s a i v) where
       stands = r .text ∙ ap (λ k. digits k v ++ drop i s) (sym (g ∙ e))
   settled n e h Bad p = record {
     not = λ y t ok st f.
-        let z = sym (scan-stop v (i - a) (drop i s) h) ∙ (sym (scan-run (i - a) v (drop i s) (r .fits)) ∙ (ap (scan 0 0) (sym (r .text) ∙ f) ∙ scan-decimal y t st)) in
+        let z = sym (scan-stop v (i - a) (drop i s) h)
+        ∙ (sym (scan-run (i - a) v (drop i s) (r .fits)) ∙ (ap (scan 0 0) (sym (r .text) ∙ f) ∙ scan-decimal y t st)) in
         let k : v ≡ y = ap (λ w. w .0) z in
         let g : i - a ≡ width y = ap (λ w. w .1) z in
         p (ap width k ∙ (sym g ∙ sym e));
@@ -163,22 +172,29 @@ store (suc j) c (x ∷ b) t h = ap (λ l. x ∷ l) (store j c b t (omega arith))
 pub one-more : (v n : ℕ) (b buffer : List ℕ) (x i : ℕ) → Writing v n b buffer x i → 0 < i → n ≤ length b
     → Writing v n b (set buffer (i - 1) (byte "0" + x % 10)) (x / 10) (i - 1)
 one-more v n b buffer x zero w h l = absurd (omega arith)
-one-more v n b buffer x (suc j) w h l = let e : j ≡ suc j - 1 = omega arith in subst (λ (k : ℕ). Writing v n b (set buffer k (byte "0" + x % 10)) (x / 10) k) e at-j
+one-more v n b buffer x (suc j) w h l = let e : j ≡ suc j - 1 = omega arith in subst
+    (λ (k : ℕ). Writing v n b (set buffer k (byte "0" + x % 10)) (x / 10) k) e at-j
   where
     at-j : Writing v n b (set buffer j (byte "0" + x % 10)) (x / 10) j
     at-j = record {
       done = (byte "0" + x % 10) ∷ w .done;
       text = w .text ∙ (ap (λ t. t ++ w .done) (digits-last j x) ∙ append-assoc (digits j (x / 10)) ((byte "0" + x % 10) ∷ []) (w .done));
-      buffer = ap (λ t. set t j (byte "0" + x % 10)) (w .buffer) ∙ store j (byte "0" + x % 10) b (w .done ++ drop n b) (omega (arith, w .most));
+      buffer = ap (λ t. set t j (byte "0" + x % 10)) (w .buffer) ∙ store j (byte "0" + x % 10) b (w .done ++ drop n b)
+          (omega (arith, w .most));
       long = length-set buffer j (byte "0" + x % 10) ∙ w .long;
       most = omega (arith, w .most);
     }
 
-pub written : (v n : ℕ) (b buffer : List ℕ) (x i : ℕ) → Writing v n b buffer x i → n ≡ length (decimal v) → i ≡ 0 → Wrote (decimal v) b buffer n
+pub written : (v n : ℕ) (b buffer : List ℕ) (x i : ℕ) → Writing v n b buffer x i → n ≡ length (decimal v) → i ≡ 0 → Wrote
+    (decimal v) b buffer n
 unfolding over digits
 written v n b buffer x i w e z =
     let t : decimal v ≡ w .done = w .text ∙ ap (λ k. digits k x ++ w .done) z in
-    record { size = e; buffer = w .buffer ∙ (ap (λ k. take k b ++ (w .done ++ drop n b)) z ∙ (ap (λ l. l ++ drop n b) (sym t) ∙ ap (λ k. decimal v ++ drop k b) e)) }
+    record {
+      size = e;
+      buffer = w .buffer ∙ (ap (λ k. take k b ++ (w .done ++ drop n b)) z
+          ∙ (ap (λ l. l ++ drop n b) (sym t) ∙ ap (λ k. decimal v ++ drop k b) e));
+    }
 
 -- What a reader of a number said, where its answer is known.
 

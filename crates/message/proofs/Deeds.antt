@@ -11,7 +11,8 @@ use Rattle.meaning.specs.Places.{null, bool, integer, string}
 use Rattle.meaning.specs.Ways.{Assigned, plain, emptyMap, emptyList}
 use Rattle.meaning.specs.Text.{assignedText}
 use Rattle.decimal.specs.Take.{Took, Never, fixed, then}
-use Rattle.decimal.proofs.Layouts.{stands, Kind, this, other, Case, case-took, case-none, Alike, no-first, no-second, both, none-alike, took-alike}
+use Rattle.decimal.proofs.Layouts.{stands, Kind, this, other, Case, case-took}
+use Rattle.decimal.proofs.Layouts.{case-none, Alike, no-first, no-second, both, none-alike, took-alike}
 use Rattle.readers.specs.Words.{pack, wordsOf, valueWords}
 use Rattle.readers.specs.Reads.{assigned, MoreAssigned, either}
 use Rattle.readers.specs.Given.{givenOf, GivenTook, ReadsAssigned}
@@ -50,7 +51,8 @@ module _ (s : List ℕ) (a : ℕ) where
   no-value r e k =
       subst (λ b. either b (GivenTook valueLines (λ v. v) s a r) (Never valueLines s a)) (sym e)
       (none-alike valueLines (then assigned (fixed (ascii "\n"))) a-line s a
-      (no-first assigned (fixed (ascii "\n")) (λ v y t o m. feed v t) s a (subst (λ b. either b (GivenTook assigned (λ v. v) s a r) (Never assigned s a)) e k)))
+      (no-first assigned (fixed (ascii "\n")) (λ v y t o m. feed v t) s a
+      (subst (λ b. either b (GivenTook assigned (λ v. v) s a r) (Never assigned s a)) e k)))
 
   module _ (r : GivenRead) (e : r .ok ≡ true) (k : ReadsAssigned s a r) where
     value : GivenTook assigned (λ v. v) s a r
@@ -144,7 +146,8 @@ module _ (s : List ℕ) (a n : ℕ) where
   unfolding an-insertion actDeed actWords
   an-insert = valued insertText an-insertion D.Insert (λ v. refl) (λ v. refl) s a n
 
-  pub a-delete : Took (fixed deleteText) s a tt n → ReadsDeed s a (record { ok = true; deed = D.Delete; words = 0 ∷ 0 ∷ 0 ∷ 0 ∷ []; next = n })
+  pub a-delete : Took (fixed deleteText) s a tt n → ReadsDeed s a
+      (record { ok = true; deed = D.Delete; words = 0 ∷ 0 ∷ 0 ∷ 0 ∷ []; next = n })
   unfolding a-deletion actDeed actWords wordsOf pack
   a-delete h =
       record {
@@ -154,7 +157,8 @@ module _ (s : List ℕ) (a n : ℕ) where
         words = refl;
       }
 
-pub no-deed : (s : List ℕ) (a : ℕ) → Never (fixed assignText) s a → Never (fixed insertText) s a → Never (fixed deleteText) s a → Never acts s a
+pub no-deed : (s : List ℕ) (a : ℕ) → Never (fixed assignText) s a → Never (fixed insertText) s a → Never (fixed deleteText) s a
+    → Never acts s a
 unfolding actText
 no-deed s a x y z = record { not = none }
   where

@@ -21,7 +21,8 @@ use Rattle.readers.specs.Reads.{either}
 use Rattle.message.specs.Means.{elementWords, prevWords, wayWords, deedOf, deedWords, pad}
 use Rattle.message.specs.Steps.{Step, key, element, caret, stepText, allText, stepWords, allWords, Open, Good, InList}
 use Rattle.message.specs.Steps.{Act, assigns, inserts, deletes, actText, ValidAct, acts}
-use Rattle.message.specs.Reads.{Tail, atKey, atElement, atCaret, ways, WayTook, ReadsWay, actDeed, actWords, DeedTook, ReadsDeed, suits}
+use Rattle.message.specs.Reads.{Tail, atKey, atElement, atCaret, ways, WayTook}
+use Rattle.message.specs.Reads.{ReadsWay, actDeed, actWords, DeedTook, ReadsDeed, suits}
 use Rattle.message.specs.Promises.{ValidLines, ReadsEdit}
 use Rattle.message.specs.declared.WayRead.{WayRead}
 use Rattle.message.specs.declared.DeedRead.{DeedRead}
@@ -345,4 +346,5 @@ module _ (s : List ℕ) (a : ℕ) where
                   ∙ (ap (λ t. parts .text (tt, ((way .top, way .xs), (tt, deed .act))) ++ t) (drop-of-length-le s h)
                   ∙ (append-nil (parts .text (tt, ((way .top, way .xs), (tt, deed .act))))
                   ∙ (ap (λ xs. parts .text (tt, ((way .top, xs), (tt, deed .act)))) (sym (m .steps))
-                  ∙ (ap (λ x. parts .text (tt, ((way .top, stepsOf (m .way)), (tt, x)))) (sym (m .act)) ∙ sym (apart-text (way .top) (m .way))))))
+                  ∙ (ap (λ x. parts .text (tt, ((way .top, stepsOf (m .way)), (tt, x)))) (sym (m .act)) ∙ sym
+                  (apart-text (way .top) (m .way))))))

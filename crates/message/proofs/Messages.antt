@@ -36,7 +36,8 @@ second = then ids third
 pub no-head : (s : List ℕ) (r : HeadRead) → r .ok ≡ false → Never heads s 0 → ReadsHead s r
 no-head s r e h = subst (λ b. either b (Took heads s 0 (tt, (r .id, (tt, (r .deps .at, tt)))) (r .next)) (Never heads s 0)) (sym e) h
 
-pub counters-took : (s : List ℕ) (a : ℕ) (r : CountersRead) → r .ok ≡ true → ReadsCounters s a r → Took counters s a (r .counters .at) (r .next)
+pub counters-took : (s : List ℕ) (a : ℕ) (r : CountersRead) → r .ok ≡ true → ReadsCounters s a r → Took counters s a
+    (r .counters .at) (r .next)
 counters-took s a r e k = subst (λ b. either b (Took counters s a (r .counters .at) (r .next)) (Never counters s a)) e k
 
 pub counters-none : (s : List ℕ) (a : ℕ) (r : CountersRead) → r .ok ≡ false → ReadsCounters s a r → Never counters s a
@@ -114,7 +115,8 @@ a-message s h e k r d = go (d .says) (d .answers)
     answer : MessageRead
     answer = record { ok = r .ok; op = record { id = h .id; deps = h .deps; way = r .way; deed = r .deed; words = r .words } }
 
-    go : (w : Says ValidLines linesOf (drop (h .next) s)) → Answers (λ l. MeansEdit (r .way) (r .deed) (r .words) (l .top) (l .way)) (r .ok) w
+    go : (w : Says ValidLines linesOf (drop (h .next) s)) → Answers (λ l. MeansEdit (r .way) (r .deed) (r .words) (l .top) (l .way))
+        (r .ok) w
         → ReadsMessage s answer
     go (says l v q) p =
         let o : M.Operation = record { id = h .id; deps = h .deps .at; top = l .top; way = l .way } in

@@ -133,7 +133,8 @@ module _ (s : List ℕ) (r : WayRead) (k : ReadsWay s 0 r) where
               })
               (way .took .text
               ∙ (ap (λ t. ways .text (way .top, way .xs) ++ t) (drop-of-length-le s h)
-              ∙ (append-nil (ways .text (way .top, way .xs)) ∙ ap (λ t. hex (way .top) ++ t) (ap allText (sym (m .steps)) ∙ sym (trail-text (m .trail))))));
+              ∙ (append-nil (ways .text (way .top, way .xs)) ∙ ap (λ t. hex (way .top) ++ t)
+              (ap allText (sym (m .steps)) ∙ sym (trail-text (m .trail))))));
           answers = (
             refl,
             record {

@@ -65,7 +65,8 @@ module _ (s : List ℕ) (a : ℕ) (inside : a < length s) where
       none (element i) t v m e = omega (arith, at-byte (byte "[") (idText i ++ t) e .0)
       none caret t v m e = omega (arith, at-byte (byte "[") (byte "^" ∷ t) e .0)
 
-  pub element-step : getD s a 0 ≡ byte "[" → Never (fixed (ascii "^")) s (a + 1) → (i n : ℕ) → Took ids s (a + 1) i n → Took steps s a (element i) n
+  pub element-step : getD s a 0 ≡ byte "[" → Never (fixed (ascii "^")) s (a + 1) → (i n : ℕ) → Took ids s (a + 1) i n → Took steps s
+      a (element i) n
   unfolding stepText
   element-step h c i n j =
       record {
@@ -159,7 +160,8 @@ finished-digit (c ∷ t) f = ap isDigit f
 
 -- What the readers of keys, ids and steps said, where their answers are known.
 
-pub key-words : (s : List ℕ) (a : ℕ) (r : KeyRead) → r .ok ≡ true → ReadsKey s a r → ReadsKeyStep s a (S.Step (r .hi) (r .lo) (r .len) (r .next))
+pub key-words : (s : List ℕ) (a : ℕ) (r : KeyRead) → r .ok ≡ true → ReadsKey s a r → ReadsKeyStep s a
+    (S.Step (r .hi) (r .lo) (r .len) (r .next))
 key-words s a r e k =
     let h = subst (λ b. either b (KeyTook s a r) (Never keys s a)) e k in
     record { step = h .key; took = h .took; words = h .words }
@@ -173,7 +175,8 @@ id-took {s} {a} r e k = subst (ReadsId s a) e k
 pub id-none : {s : List ℕ} {a : ℕ} (r : IdRead) → r ≡ I.Bad → ReadsId s a r → Never ids s a
 id-none {s} {a} r e k = subst (ReadsId s a) e k
 
-pub step-took : {s : List ℕ} {a hi lo len n : ℕ} (r : StepRead) → r ≡ S.Step hi lo len n → ReadsStep s a r → StepTook steps stepWords s a hi lo len n
+pub step-took : {s : List ℕ} {a hi lo len n : ℕ} (r : StepRead) → r ≡ S.Step hi lo len n → ReadsStep s a r → StepTook steps
+    stepWords s a hi lo len n
 step-took {s} {a} r e k = subst (ReadsStep s a) e k
 
 pub step-end : (s : List ℕ) (a : ℕ) (r : StepRead) → r ≡ S.End → ReadsStep s a r → Finished (drop a s)

@@ -15,7 +15,8 @@ use Rattle.readers.specs.Reads.{keys, either}
 use Rattle.readers.specs.Hex.{KeyTook, ReadsKey}
 use Rattle.readers.specs.declared.KeyRead.{KeyRead}
 use Rattle.message.specs.Means.{pad}
-use Rattle.message.specs.Steps.{Step, key, element, caret, stepText, allText, stepWords, allWords, ValidStep, MoreStep, steps, Finished}
+use Rattle.message.specs.Steps.{Step, key, element, caret, stepText, allText}
+use Rattle.message.specs.Steps.{stepWords, allWords, ValidStep, MoreStep, steps, Finished}
 use Rattle.message.specs.Steps.{Open, Good, InList, trails}
 use Rattle.message.specs.Reads.{StepTook, Tail, atKey, atElement, atCaret, ways, WayTook, ReadsWay}
 use Rattle.message.specs.declared.WayRead.{WayRead}
@@ -125,7 +126,8 @@ module _ (s : List ℕ) (a : ℕ) (xs : List Step) (n : ℕ) (k : Passed s a xs 
   unfolding allText
   onward ys t g f e = let u = k .goes ys t g f e in go (u .0) (u .1) (u .2)
     where
-      go : (zs : List Step) → ys ≡ xs ++ zs → allText zs ++ t ≡ drop n s → (r : List Step) × (ys ≡ xs ++ (x ∷ r)) × (allText r ++ t ≡ drop m s)
+      go : (zs : List Step) → ys ≡ xs ++ zs → allText zs ++ t ≡ drop n s → (r : List Step) × (ys ≡ xs ++ (x ∷ r))
+          × (allText r ++ t ≡ drop m s)
       go [] p q = absurd (stands-on s n m x j (subst Finished q f))
       go (z ∷ zs) p q =
           let r =
@@ -161,10 +163,18 @@ module _ (s : List ℕ) (a : ℕ) (xs : List Step) (n : ℕ) (k : Passed s a xs 
         caret-last ys x (u .0) (subst Good (u .1 ∙ ap (λ l. l ++ (x ∷ u .0)) q) (v .1));
   }
 
-ended : (s : List ℕ) (a : ℕ) (xs : List Step) (n : ℕ) → Passed s a xs n → Good xs → length xs ≤ 7 → Finished (drop n s) → Took trails s a xs n
+ended : (s : List ℕ) (a : ℕ) (xs : List Step) (n : ℕ) → Passed s a xs n → Good xs → length xs ≤ 7 → Finished (drop n s) → Took
+    trails s a xs n
 unfolding allText stepText
 ended s a xs n k g l f =
-    record { valid = (l, g); text = k .text; rest = f; within = k .within; only = λ ys t v o e. let u = k .goes ys t (v .1) o e in go (u .0) ys t (u .1) (u .2) }
+    record {
+      valid = (l, g);
+      text = k .text;
+      rest = f;
+      within = k .within;
+      only = λ ys t v o e. let u = k .goes ys t (v .1) o
+          e in go (u .0) ys t (u .1) (u .2);
+    }
   where
     go : (zs ys : List Step) (t : List ℕ) → ys ≡ xs ++ zs → allText zs ++ t ≡ drop n s → (ys ≡ xs) × (t ≡ drop n s)
     go [] ys t p q = (p ∙ append-nil xs, q)
@@ -179,7 +189,8 @@ stuck s a xs n k h u = record { not = λ ys t v f e. let w = k .goes ys t (v .1)
     go : (zs ys : List Step) (t : List ℕ) → Good ys → Finished t → ys ≡ xs ++ zs → allText zs ++ t ≡ drop n s → ⊥
     go [] ys t g f p q = u (subst Finished q f)
     go (z ∷ zs) ys t g f p q =
-        h .not z (allText zs ++ t) (good-valid xs z zs (subst Good p g)) (follows z zs t f) (sym q ∙ append-assoc (stepText z) (allText zs) t)
+        h .not z (allText zs ++ t) (good-valid xs z zs (subst Good p g)) (follows z zs t f)
+        (sym q ∙ append-assoc (stepText z) (allText zs) t)
 
 -- Words.
 
@@ -308,7 +319,8 @@ module _ (s : List ℕ) (a : ℕ) (ks : List ℕ) (last n i : ℕ) (k : State s 
               ∙ (three-more w i hi lo len l (omega (arith, k .most))
               ∙ ap (pad 24)
               (ap (λ v. w ++ v) (j .words ∙ sym (append-nil (stepWords x)))
-              ∙ (append-assoc (keyWords (k .top)) (allWords (k .xs)) (stepWords x ++ []) ∙ ap (λ v. keyWords (k .top) ++ v) (sym (words-append (k .xs) (x ∷ []))))));
+              ∙ (append-assoc (keyWords (k .top)) (allWords (k .xs)) (stepWords x ++ []) ∙ ap (λ v. keyWords (k .top) ++ v)
+              (sym (words-append (k .xs) (x ∷ []))))));
           count = omega (arith, k .count);
           most = omega (arith, k .most);
         }

@@ -19,7 +19,8 @@ use Rattle.meaning.specs.Sheet.{Spot, inMap, inList, Row, rowsOf}
 use Rattle.theorems.specs.Accepting.{Limits, fits-limits}
 use Rattle.rows.specs.Blocks.{Block}
 use Rattle.rows.specs.Locate.{Located, nowhere, here, locateKey, locateElement}
-use Rattle.rows.specs.Counting.{Change, noChange, both, adds, giveChange, newChange, passingChange, newBlock, foundChange, isPrev, runChange}
+use Rattle.rows.specs.Counting.{Change, noChange, both, adds, giveChange}
+use Rattle.rows.specs.Counting.{newChange, passingChange, newBlock, foundChange, isPrev, runChange}
 use Rattle.rows.specs.Counting.{change, Balance}
 use Rattle.rows.specs.Balanced.{apply-balance}
 use Rattle.rows.specs.Within.{underChange, change-under}
@@ -65,8 +66,10 @@ run-slight d delete n b = record { no-place = refl; one-value = omega arith }
 run-slight d (insert p a) n b =
     let s = new-slight (isPrev (suc n) p (b .under)) a in
     record { no-place = omega (arith, s .no-place); one-value = omega (arith, s .one-value) }
-run-slight d (intoMap k w) n b = passing-slight w _ (found-slight _ (run-slight d w (suc n)) (makes w) (suc n) (inMap k) (locateKey (suc n) k (b .under)))
-run-slight d (intoList e w) n b = passing-slight w _ (found-slight _ (run-slight d w (suc n)) false (suc n) (inList e) (locateElement (suc n) e (b .under)))
+run-slight d (intoMap k w) n b = passing-slight w _
+    (found-slight _ (run-slight d w (suc n)) (makes w) (suc n) (inMap k) (locateKey (suc n) k (b .under)))
+run-slight d (intoList e w) n b = passing-slight w _
+    (found-slight _ (run-slight d w (suc n)) false (suc n) (inList e) (locateElement (suc n) e (b .under)))
 
 change-slight : (o : M.Operation) (rs : List Row) → Slight (change o rs)
 unfolding change

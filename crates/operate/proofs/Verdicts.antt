@@ -78,14 +78,16 @@ module _ (i : ℕ) (d : List ℕ) (deed : Deed) (ks : List ℕ) (n : ℕ) (o : M
       let s = steps-whole in
       rw (deed-whole, e .id, words-whole, s .0) (down-pad (o .id) (whole o) tt (s .1))
 
-module _ (h k m v : List ℕ) (c : Counts) (i : ℕ) (d : List ℕ) (deed : Deed) (ks : List ℕ) (n : ℕ) (way : List ℕ) (part : way ≡ take (3 * n) ks)
+module _ (h k m v : List ℕ) (c : Counts) (i : ℕ) (d : List ℕ) (deed : Deed) (ks : List ℕ) (n : ℕ) (way : List ℕ)
+    (part : way ≡ take (3 * n) ks)
     (x : Weight) (W : Weighed h k m v (c .rows) (record { row = 0; mark = 0; value = 0 }) 1 true d deed way x) where
   module _ (D : Document) (o : M.Operation) (S : Stores (four h k m v) c (D .seen) D) (e : Parts i d deed ks n o)
       (val : ValidOperation o) where
     weighed : Weighs (not (astray D o)) (change o (rowsOf D)) x
     unfolding steps
     weighed =
-        let w = W .is c [] (rowsOf D) (whole o) (S .rows) refl (λ t. first-behind) (part ∙ way-part i d deed ks n o e val) (deed-whole i d deed ks n o e val)
+        let w = W .is c [] (rowsOf D) (whole o) (S .rows) refl (λ t. first-behind) (part ∙ way-part i d deed ks n o e val)
+        (deed-whole i d deed ks n o e val)
         (val .edit .first, val .edit .rest) (omega (arith, val .edit .reach)) in
         let a : ledRows d 1 (whole o) (rowsOf D) ≡ not (astray D o) =
         ap (λ d. ledRows d 1 (whole o) (rowsOf D)) (e .deps)

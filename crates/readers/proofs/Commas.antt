@@ -47,12 +47,14 @@ stop (x ∷ xs) t h = refl
 comma-more : (xs : List ℕ) (x : ℕ) → commaText (xs ++ (x ∷ [])) ≡ commaText xs ++ (ascii "," ++ decimal x)
 unfolding commaText
 comma-more [] x = ap (λ t. byte "," ∷ t) (append-nil (decimal x))
-comma-more (y ∷ xs) x = ap (λ t. byte "," ∷ t) (ap (λ t. decimal y ++ t) (comma-more xs x) ∙ sym (append-assoc (decimal y) (commaText xs) (byte "," ∷ decimal x)))
+comma-more (y ∷ xs) x = ap (λ t. byte "," ∷ t) (ap (λ t. decimal y ++ t) (comma-more xs x) ∙ sym
+    (append-assoc (decimal y) (commaText xs) (byte "," ∷ decimal x)))
 
 counters-more : (xs : List ℕ) (x : ℕ) → 0 < length xs → countersText (xs ++ (x ∷ [])) ≡ countersText xs ++ (ascii "," ++ decimal x)
 unfolding countersText
 counters-more [] x h = absurd (omega arith)
-counters-more (y ∷ xs) x h = ap (λ t. decimal y ++ t) (comma-more xs x) ∙ sym (append-assoc (decimal y) (commaText xs) (byte "," ∷ decimal x))
+counters-more (y ∷ xs) x h = ap (λ t. decimal y ++ t) (comma-more xs x) ∙ sym
+    (append-assoc (decimal y) (commaText xs) (byte "," ∷ decimal x))
 
 -- after i counters, which are the first of v, the reader is at n; and counters that stand at a go on there with those behind the first i
 pub record State (s : List ℕ) (a i n : ℕ) (v : List ℕ) : Type 0 where
@@ -124,7 +126,8 @@ module _ (s : List ℕ) (a i n : ℕ) (v : List ℕ) (st : State s a i n v) wher
             ∙ (ap (λ t. countersText (take i v) ++ t) (k .text)
             ∙ (sym (append-assoc (countersText (take i v)) (ascii "," ++ decimal x) (drop m s))
             ∙ ap (λ t. t ++ drop m s)
-            (sym (counters-more (take i v) x (omega (arith, st .some, length-take-le i v (omega (arith, st .long))))) ∙ ap countersText (sym front))));
+            (sym (counters-more (take i v) x (omega (arith, st .some, length-take-le i v (omega (arith, st .long))))) ∙ ap
+            countersText (sym front))));
         rest = k .rest;
         within = λ o. k .within (st .within o);
         goes = goes;
@@ -136,7 +139,8 @@ module _ (s : List ℕ) (a i n : ℕ) (v : List ℕ) (st : State s a i n v) wher
       each : (j : ℕ) → j < i + 1 → getD (set v i x) j 0 ≤ 4294967295
       each j g =
           ⊎-elim
-          (λ e. subst (λ (y : ℕ). getD (set v i x) y 0 ≤ 4294967295) (sym e) (rw (getD-set-same v i x 0 (omega (arith, st .long))) (k .valid)))
+          (λ e. subst (λ (y : ℕ). getD (set v i x) y 0 ≤ 4294967295) (sym e)
+          (rw (getD-set-same v i x 0 (omega (arith, st .long))) (k .valid)))
           (λ l. rw (getD-set-other v i j x 0 (λ e. omega arith)) (st .each j l))
           (eq-or-lt-of-le {n = j} {m = i} (omega arith))
 
@@ -145,8 +149,10 @@ module _ (s : List ℕ) (a i n : ℕ) (v : List ℕ) (st : State s a i n v) wher
       goes w t o d e =
           let f : suc i ≡ i + 1 = omega arith in
           let p = st .goes w t o d e in
-          let q = k .only (getD w i 0) (commaText (drop (suc i) w) ++ t) (o .each i) (stop (drop (suc i) w) t d) (sym (p .1) ∙ next w t o h) in (
-            ap (λ j. take j w) (sym f) ∙ (take-suc w i 0 (omega (arith, o .eight)) ∙ (ap (λ l. l ++ (getD w i 0 ∷ [])) (p .0) ∙ (ap (λ y. take i v ++ (y ∷ [])) (q .0) ∙ sym front))),
+          let q = k .only (getD w i 0) (commaText (drop (suc i) w) ++ t) (o .each i) (stop (drop (suc i) w) t d)
+          (sym (p .1) ∙ next w t o h) in (
+            ap (λ j. take j w) (sym f) ∙ (take-suc w i 0 (omega (arith, o .eight))
+                ∙ (ap (λ l. l ++ (getD w i 0 ∷ [])) (p .0) ∙ (ap (λ y. take i v ++ (y ∷ [])) (q .0) ∙ sym front))),
             ap (λ j. commaText (drop j w) ++ t) (sym f) ∙ q .1,
           )
 

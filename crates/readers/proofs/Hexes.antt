@@ -48,7 +48,14 @@ is-hex n l = go (half n)
     go (lower p e) = rw (e, le-leb (byte "0") (byte "0" + n) (omega arith), le-leb (byte "0" + n) (byte "9") (omega arith))
     go (upper p e) =
         let c = byte "a" + (n - 10) in
-        rw (e, le-leb (byte "0") c (omega arith), lt-leb c (byte "9") (omega arith), le-leb (byte "a") c (omega arith), le-leb c (byte "f") (omega arith))
+        rw (
+          e,
+          le-leb (byte "0") c (omega arith),
+          lt-leb c (byte "9") (omega arith),
+          le-leb (byte "a") c (omega arith),
+          le-leb c
+              (byte "f") (omega arith),
+        )
 
 digit-once : (m n : ℕ) → m < 16 → n < 16 → hexDigit m ≡ hexDigit n → m ≡ n
 digit-once m n a b e = go (half m) (half n)
@@ -60,10 +67,18 @@ digit-once m n a b e = go (half m) (half n)
     go (upper p f) (upper q g) = omega arith
 
 pub decimal-digit : (c : ℕ) → byte "0" ≤ c → c ≤ byte "9" → ReadsDigit c (c - byte "0")
-decimal-digit c a b = record { digit = λ h. omega (arith, low (c - byte "0") (omega arith)); other = λ h. absurd (omega arith); most = omega arith }
+decimal-digit c a b = record {
+  digit = λ h. omega (arith, low (c - byte "0") (omega arith));
+  other = λ h. absurd (omega arith);
+  most = omega arith;
+}
 
 pub letter-digit : (c : ℕ) → byte "a" ≤ c → c ≤ byte "f" → ReadsDigit c (c - byte "a" + 10)
-letter-digit c a b = record { digit = λ h. omega (arith, high (c - byte "a" + 10) (omega arith)); other = λ h. absurd (omega arith); most = omega arith }
+letter-digit c a b = record {
+  digit = λ h. omega (arith, high (c - byte "a" + 10) (omega arith));
+  other = λ h. absurd (omega arith);
+  most = omega arith;
+}
 
 no-and : (b : Bool) → (b && false) ≡ false
 no-and true = refl
@@ -79,7 +94,13 @@ pub between : (c : ℕ) → byte "9" < c → c < byte "a" → ReadsDigit c 16
 between c h g = none c (rw (lt-leb c (byte "9") h, lt-leb (byte "a") c g, no-and (leb (byte "0") c)))
 
 pub above-letters : (c : ℕ) → byte "f" < c → ReadsDigit c 16
-above-letters c h = none c (rw (lt-leb c (byte "9") (omega arith), lt-leb c (byte "f") h, no-and (leb (byte "0") c), no-and (leb (byte "a") c)))
+above-letters c h = none c (rw (
+  lt-leb c (byte "9") (omega arith),
+  lt-leb c (byte "f") h,
+  no-and (leb (byte "0") c),
+  no-and
+      (leb (byte "a") c),
+))
 
 -- Where bytes stop.
 
@@ -116,7 +137,8 @@ pub join : (s : List ℕ) (a : ℕ) (k : List ℕ) (n : ℕ) (j : List ℕ) (m :
 join s a k n j m x y =
     record {
       bytes = bytes-append k j (x .bytes) (y .bytes);
-      text = x .text ∙ (ap (λ t. hex k ++ t) (y .text) ∙ (sym (append-assoc (hex k) (hex j) (drop m s)) ∙ ap (λ t. t ++ drop m s) (sym (hex-append k j))));
+      text = x .text ∙ (ap (λ t. hex k ++ t) (y .text)
+          ∙ (sym (append-assoc (hex k) (hex j) (drop m s)) ∙ ap (λ t. t ++ drop m s) (sym (hex-append k j))));
       within = λ h. y .within (x .within h);
       goes = λ b t p st e.
           let u = x .goes b t p st e in
@@ -131,7 +153,8 @@ module _ (s : List ℕ) (n : ℕ) (inside : n < length s) (h : ℕ) (small : h <
 
   -- bytes that stand at n are at least one, and begin with this digit
   one : (r t : List ℕ) → Bytes r → Stops t → hex r ++ t ≡ drop n s
-      → (b : ℕ) × (k : List ℕ) × (r ≡ b ∷ k) × (b < 256) × (hexDigit (b / 16) ≡ hexDigit h) × (hexDigit (b % 16) ∷ (hex k ++ t) ≡ drop (n + 1) s)
+      → (b : ℕ) × (k : List ℕ) × (r ≡ b ∷ k) × (b < 256) × (hexDigit (b / 16) ≡ hexDigit h)
+      × (hexDigit (b % 16) ∷ (hex k ++ t) ≡ drop (n + 1) s)
   unfolding hex
   one [] t p st e = absurd (clash h t (drop (n + 1) s) small st (e ∙ begins))
   one (b ∷ k) t p st e =
@@ -170,7 +193,8 @@ module _ (s : List ℕ) (n : ℕ) (inside : n < length s) (h : ℕ) (small : h <
         text =
             begins
             ∙ (ap (λ t. hexDigit h ∷ t) rest
-            ∙ (ap (λ c. hexDigit c ∷ hexDigit l ∷ drop (n + 2) s) (sym p) ∙ ap (λ c. hexDigit ((h * 16 + l) / 16) ∷ hexDigit c ∷ drop (n + 2) s) (sym q)));
+            ∙ (ap (λ c. hexDigit c ∷ hexDigit l ∷ drop (n + 2) s) (sym p) ∙ ap
+            (λ c. hexDigit ((h * 16 + l) / 16) ∷ hexDigit c ∷ drop (n + 2) s) (sym q)));
         within = λ i. omega arith;
         goes = λ b t ok st e.
             let o = one b t ok st (sym e) in

@@ -27,13 +27,15 @@ an-id = record {
   same = λ p v.
       let c : (p .0 * 8 + (p .1 .1 - 1)) / 8 ≡ p .0 = omega arith in
       let r : suc ((p .0 * 8 + (p .1 .1 - 1)) % 8) ≡ p .1 .1 = omega arith in
-      ap (λ n. decimal n ++ (ascii "." ++ decimal (suc ((p .0 * 8 + (p .1 .1 - 1)) % 8)))) c ∙ ap (λ n. decimal (p .0) ++ (ascii "." ++ decimal n)) r;
+      ap (λ n. decimal n ++ (ascii "." ++ decimal (suc ((p .0 * 8 + (p .1 .1 - 1)) % 8)))) c ∙ ap
+      (λ n. decimal (p .0) ++ (ascii "." ++ decimal n)) r;
   less = λ p t h. h;
 }
 
 module _ (s : List ℕ) (a : ℕ) where
   pub no-counter : Never (numbers 1 4294967295) s a → Never ids s a
-  no-counter h = none-alike ids parts an-id s a (no-first (numbers 1 4294967295) (then (fixed (ascii ".")) (numbers 1 8)) (λ x y t v m. refl) s a h)
+  no-counter h = none-alike ids parts an-id s a
+      (no-first (numbers 1 4294967295) (then (fixed (ascii ".")) (numbers 1 8)) (λ x y t v m. refl) s a h)
 
   module _ (c n : ℕ) (k : Took (numbers 1 4294967295) s a c n) where
     behind : Never (then (fixed (ascii ".")) (numbers 1 8)) s n → Never ids s a

@@ -45,7 +45,8 @@ module _ (s : List ℕ) (a : ℕ) where
       where
         none : (z : ℤ) (t : List ℕ) → integers .Valid z → NoDigit t → drop a s ≡ integerText z ++ t → ⊥
         none (pos x) t v m e = no-minus x t (drop n s) (sym e ∙ h .text)
-        none (negsuc x) t v m e = k .not (suc x) t (omega arith, omega arith) m (cancel (ascii "-") (drop n s) (decimal (suc x) ++ t) (sym (h .text) ∙ e))
+        none (negsuc x) t v m e = k .not (suc x) t (omega arith, omega arith) m
+            (cancel (ascii "-") (drop n s) (decimal (suc x) ++ t) (sym (h .text) ∙ e))
 
     pub neg : (x m : ℕ) → Took (numbers 1 9223372036854775808) s n x m → Took integers s a (negsuc (x - 1)) m
     unfolding integerText
@@ -62,6 +63,7 @@ module _ (s : List ℕ) (a : ℕ) where
         alone : (z : ℤ) (t : List ℕ) → integers .Valid z → NoDigit t → drop a s ≡ integerText z ++ t → (z ≡ negsuc (x - 1)) × (t ≡ drop m s)
         alone (pos y) t v o e = absurd (no-minus y t (drop n s) (sym e ∙ h .text))
         alone (negsuc y) t v o e =
-            let q = k .only (suc y) t (omega arith, omega arith) o (cancel (ascii "-") (drop n s) (decimal (suc y) ++ t) (sym (h .text) ∙ e)) in
+            let q = k .only (suc y) t (omega arith, omega arith) o
+            (cancel (ascii "-") (drop n s) (decimal (suc y) ++ t) (sym (h .text) ∙ e)) in
             let r : y ≡ x - 1 = omega (arith, q .0) in
             (ap negsuc r, q .1)

@@ -16,7 +16,12 @@ pub record Sought (s : List ℕ) (a e : ℕ) : Type 0 where
   pub unbroken : Unbroken (take (e - a) (drop a s))
 
 pub start : (s : List ℕ) (a : ℕ) → a ≤ length s → Sought s a a
-start s a h = record { from = omega arith; most = h; unbroken = let e : 0 ≡ a - a = omega arith in subst (λ (n : ℕ). Unbroken (take n (drop a s))) e tt }
+start s a h = record {
+  from = omega arith;
+  most = h;
+  unbroken = let e : 0 ≡ a - a = omega arith in subst
+      (λ (n : ℕ). Unbroken (take n (drop a s))) e tt;
+}
 
 unbroken-more : (l : List ℕ) (c : ℕ) → Unbroken l → (c ≡ byte "\n" → ⊥) → Unbroken (l ++ (c ∷ []))
 unbroken-more [] c u h = (h, tt)
@@ -34,12 +39,14 @@ module _ (s : List ℕ) (a e : ℕ) (k : Sought s a e) where
         most = omega arith;
         unbroken =
             subst (λ (i : ℕ). Unbroken (take i (drop a s))) n
-            (subst Unbroken (sym t) (unbroken-more (take (e - a) (drop a s)) (getD (drop a s) (e - a) 0) (k .unbroken) (λ q. g (sym c ∙ q))));
+            (subst Unbroken (sym t) (unbroken-more (take (e - a) (drop a s)) (getD (drop a s) (e - a) 0) (k .unbroken)
+            (λ q. g (sym c ∙ q))));
       }
 
   done : Ended (drop e s) → IsLine s a (take (e - a) (drop a s))
   done h =
-      let l : length (take (e - a) (drop a s)) ≡ e - a = length-take-le (e - a) (drop a s) (omega (arith, length-drop a s, k .from, k .most)) in
+      let l : length (take (e - a) (drop a s)) ≡ e - a = length-take-le (e - a) (drop a s)
+      (omega (arith, length-drop a s, k .from, k .most)) in
       let m : a + length (take (e - a) (drop a s)) ≡ e = omega (arith, k .from) in
       let o : a + (e - a) ≡ e = omega (arith, k .from) in
       record {

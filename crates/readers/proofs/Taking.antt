@@ -98,7 +98,8 @@ word-took s a w e r = subst (λ b. either b (WordTook s a w) (Unhexed s a)) e r
 pub word-none : (s : List ℕ) (a : ℕ) (w : Word) → w .ok ≡ false → ReadsWord s a w → Unhexed s a
 word-none s a w e r = subst (λ b. either b (WordTook s a w) (Unhexed s a)) e r
 
-module _ (count : ℕ) (s : List ℕ) (a : ℕ) (words : List ℕ) (len n i : ℕ) (k : Parts s a words len n i) (c : count ≤ 4) (h : i < count) (w : Word) where
+module _ (count : ℕ) (s : List ℕ) (a : ℕ) (words : List ℕ) (len n i : ℕ) (k : Parts s a words len n i) (c : count ≤ 4)
+    (h : i < count) (w : Word) where
   pub no-word : Unhexed s n → Never (hexes (8 * count)) s a
   no-word u = unhexed (8 * count) s a (k .key) n (k .hexed) u
 
@@ -171,9 +172,16 @@ pub string-read : (s : List ℕ) (a : ℕ) (r : StringRead) → ReadsHex 4 s a r
 unfolding a-string
 string-read s a r = go (r .ok)
   where
-    go : (b : Bool) → either b (HexTook (hexes (8 * 4)) s a r) (Never (hexes (8 * 4)) s a) → either b (HexTook strings s a r) (Never strings s a)
+    go : (b : Bool) → either b (HexTook (hexes (8 * 4)) s a r) (Never (hexes (8 * 4)) s a) → either b (HexTook strings s a r)
+        (Never strings s a)
     go true k =
-        record { bytes = k .bytes; took = took-alike strings (hexes 32) a-string s a (k .bytes) (r .next) (k .took); words = k .words; long = k .long }
+        record {
+          bytes = k .bytes;
+          took = took-alike strings (hexes 32) a-string s a (k .bytes) (r .next) (k .took);
+          words = k
+              .words;
+          long = k .long;
+        }
     go false k = none-alike strings (hexes 32) a-string s a k
 
 pub key-read : (s : List ℕ) (a : ℕ) (r : StringRead) → ReadsHex 2 s a r
@@ -189,6 +197,7 @@ key-read s a r = go (r .ok)
         record {
           key = k .bytes;
           took = took-alike keys (hexes 16) a-key s a (k .bytes) (r .next) (k .took);
-          words = ap (λ w. getD w 0 0 ∷ getD w 1 0 ∷ r .len ∷ []) (k .words) ∙ ap (λ l. pack 8 (k .bytes) ∷ pack 8 (drop 8 (k .bytes)) ∷ l ∷ []) (k .long);
+          words = ap (λ w. getD w 0 0 ∷ getD w 1 0 ∷ r .len ∷ []) (k .words) ∙ ap
+              (λ l. pack 8 (k .bytes) ∷ pack 8 (drop 8 (k .bytes)) ∷ l ∷ []) (k .long);
         }
     go false k = none-alike keys (hexes 16) a-key s a k

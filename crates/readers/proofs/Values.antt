@@ -97,7 +97,10 @@ lettered (string b) = refl
 
 -- nothing stands at the end
 pub no-plain-end : (s : List ℕ) (a : ℕ) → length s ≤ a → Never plains s a
-no-plain-end s a h = record { not = λ v t ok m e. omega (arith, ap length (sym (drop-of-length-le s h) ∙ (e ∙ ap (λ l. l ++ t) (lettered v)))) }
+no-plain-end s a h = record {
+  not = λ v t ok m e. omega
+      (arith, ap length (sym (drop-of-length-le s h) ∙ (e ∙ ap (λ l. l ++ t) (lettered v))));
+}
 
 module _ (s : List ℕ) (a : ℕ) (inside : a < length s) where
   apart : (v : Plain) (t : List ℕ) → drop a s ≡ plainText v ++ t → getD s a 0 ∷ drop (a + 1) s ≡ letter v ∷ (body v ++ t)
@@ -129,7 +132,8 @@ module _ (s : List ℕ) (a : ℕ) (inside : a < length s) where
   unfolding letter body
   is-true h = record { valid = tt; text = here (bool true) h (a + 1) refl; rest = tt; within = λ i. omega arith; only = alone }
     where
-      alone : (v : Plain) (t : List ℕ) → plains .Valid v → MorePlain v t → drop a s ≡ plainText v ++ t → (v ≡ bool true) × (t ≡ drop (a + 1) s)
+      alone : (v : Plain) (t : List ℕ) → plains .Valid v → MorePlain v t → drop a s ≡ plainText v ++ t → (v ≡ bool true)
+          × (t ≡ drop (a + 1) s)
       alone null t ok m e = absurd (omega (arith, first null t e))
       alone (bool true) t ok m e = (refl, sym (rest (bool true) t e))
       alone (bool false) t ok m e = absurd (omega (arith, first (bool false) t e))
@@ -140,7 +144,8 @@ module _ (s : List ℕ) (a : ℕ) (inside : a < length s) where
   unfolding letter body
   is-false h = record { valid = tt; text = here (bool false) h (a + 1) refl; rest = tt; within = λ i. omega arith; only = alone }
     where
-      alone : (v : Plain) (t : List ℕ) → plains .Valid v → MorePlain v t → drop a s ≡ plainText v ++ t → (v ≡ bool false) × (t ≡ drop (a + 1) s)
+      alone : (v : Plain) (t : List ℕ) → plains .Valid v → MorePlain v t → drop a s ≡ plainText v ++ t → (v ≡ bool false)
+          × (t ≡ drop (a + 1) s)
       alone null t ok m e = absurd (omega (arith, first null t e))
       alone (bool true) t ok m e = absurd (omega (arith, first (bool true) t e))
       alone (bool false) t ok m e = (refl, sym (rest (bool false) t e))
@@ -150,7 +155,13 @@ module _ (s : List ℕ) (a : ℕ) (inside : a < length s) where
   pub is-integer : getD s a 0 ≡ byte "i" → (n : ℤ) (o : ℕ) → Took integers s (a + 1) n o → Took plains s a (integer n) o
   unfolding letter body
   is-integer h n o k =
-      record { valid = k .valid; text = here (integer n) h o (k .text); rest = k .rest; within = λ i. k .within (omega arith); only = alone }
+      record {
+        valid = k .valid;
+        text = here (integer n) h o (k .text);
+        rest = k .rest;
+        within = λ i. k .within (omega arith);
+        only = alone;
+      }
     where
       alone : (v : Plain) (t : List ℕ) → plains .Valid v → MorePlain v t → drop a s ≡ plainText v ++ t → (v ≡ integer n) × (t ≡ drop o s)
       alone null t ok m e = absurd (omega (arith, first null t e))
@@ -237,7 +248,8 @@ module _ (s : List ℕ) (a : ℕ) (inside : a < length s) where
         only = alone;
       }
     where
-      alone : (v : Assigned) (t : List ℕ) → assigned .Valid v → MoreAssigned v t → drop a s ≡ assignedText v ++ t → (v ≡ emptyMap) × (t ≡ drop (a + 1) s)
+      alone : (v : Assigned) (t : List ℕ) → assigned .Valid v → MoreAssigned v t → drop a s ≡ assignedText v ++ t → (v ≡ emptyMap)
+          × (t ≡ drop (a + 1) s)
       alone (plain v) t ok m e = absurd (no-brace v t e h)
       alone emptyMap t ok m e = (refl, at-letter (byte "{") t e .1)
       alone emptyList t ok m e = absurd (omega (arith, at-letter (byte "[") t e .0))
@@ -253,7 +265,8 @@ module _ (s : List ℕ) (a : ℕ) (inside : a < length s) where
         only = alone;
       }
     where
-      alone : (v : Assigned) (t : List ℕ) → assigned .Valid v → MoreAssigned v t → drop a s ≡ assignedText v ++ t → (v ≡ emptyList) × (t ≡ drop (a + 1) s)
+      alone : (v : Assigned) (t : List ℕ) → assigned .Valid v → MoreAssigned v t → drop a s ≡ assignedText v ++ t → (v ≡ emptyList)
+          × (t ≡ drop (a + 1) s)
       alone (plain v) t ok m e = absurd (no-bracket v t e h)
       alone emptyMap t ok m e = absurd (omega (arith, at-letter (byte "{") t e .0))
       alone emptyList t ok m e = (refl, at-letter (byte "[") t e .1)
@@ -263,7 +276,8 @@ module _ (s : List ℕ) (a : ℕ) (inside : a < length s) where
     unfolding assignedText
     is-plain v n k = record { valid = k .valid; text = k .text; rest = k .rest; within = k .within; only = alone }
       where
-        alone : (w : Assigned) (t : List ℕ) → assigned .Valid w → MoreAssigned w t → drop a s ≡ assignedText w ++ t → (w ≡ plain v) × (t ≡ drop n s)
+        alone : (w : Assigned) (t : List ℕ) → assigned .Valid w → MoreAssigned w t → drop a s ≡ assignedText w ++ t → (w ≡ plain v)
+            × (t ≡ drop n s)
         alone (plain w) t ok m e = let q = k .only w t ok m e in (ap plain (q .0), q .1)
         alone emptyMap t ok m e = absurd (x (at-letter (byte "{") t e .0))
         alone emptyList t ok m e = absurd (y (at-letter (byte "[") t e .0))

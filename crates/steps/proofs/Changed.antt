@@ -40,7 +40,8 @@ module _ (A : List Row) (r r′ : Row) (R : List Row) where
   heads-same =
       omega (arith, heads-length (A ++ r ∷ R), heads-length (A ++ r′ ∷ R), rows-between A r R, rows-between A r′ R)
 
-  head-written : (h : List ℕ) → h ≡ pad headsRoom (headsOf (A ++ r ∷ R)) → set h (length A) (headWord r′) ≡ pad headsRoom (headsOf (A ++ r′ ∷ R))
+  head-written : (h : List ℕ) → h ≡ pad headsRoom (headsOf (A ++ r ∷ R)) → set h (length A) (headWord r′) ≡ pad headsRoom
+      (headsOf (A ++ r′ ∷ R))
   head-written h e =
       let z : List ℕ = replicate (headsRoom - length (headsOf (A ++ r ∷ R))) 0 in
       ap (λ l. set l (length A) (headWord r′)) (e ∙ heads-parts A r R z)

@@ -50,10 +50,12 @@ drops s d n end gone c h v v₁ v₂ a b x y K o z k m A R r H t =
     let q : end ≡ F + length left * 6 = K .next ∙ ap (λ l. F + length l) w ∙ ap (F +_) u in
     let g : gone ≡ length (r .values) - length left = omega arith in
     let G : getD h (s .row) 0 - 262144 * gone ≡ headWord r′ = omega (arith, P .head) in
-    let S = kept-closed (6 * c .values) (F + n * 6) F (n * 6) end (keepRows 6 (uncovered d) n (drop F v)) v v₁ v₂ (K .high) (omega arith) a K o in
+    let S = kept-closed (6 * c .values) (F + n * 6) F (n * 6) end (keepRows 6 (uncovered d) n (drop F v)) v v₁ v₂ (K .high)
+    (omega arith) a K o in
     let M : v₂ ≡ pad valuesRoom (valuesOf (A ++ r′ ∷ R)) =
     rw (w, i) at S
-    ∙ (values-kept A R r v (H .values) F f (6 * c .values) (omega (arith, H .values-are)) (λ v. uncovered d (v .id)) (omega (arith, H .values-fit))
+    ∙ (values-kept A R r v (H .values) F f (6 * c .values) (omega (arith, H .values-are)) (λ v. uncovered d (v .id))
+    (omega (arith, H .values-fit))
     ∙ ap (pad valuesRoom) (sym (among-is A r′ R))) in
     rw (G, p .row)
     (changed A r r′ R h k m v m v₂ c _ H refl

@@ -44,7 +44,8 @@ module _ (A R : List Row) (r : Row) (m : List ℕ) (e : m ≡ pad marksRoom (mar
       put-pad 1 alone own strides-own marksRoom from k (from + k) live (marksOf A) (marksOf R) id (r .marks) s o
       (marks-length A ∙ sym f) q (omega arith) (omega (arith, marks-length R)) (omega arith) in
       let Q : inserted live (from + k) (id ∷ []) (pad marksRoom (marksOf A ++ (r .marks ++ marksOf R)))
-      ≡ pad marksRoom (marksOf A ++ (put own id (r .marks) ++ marksOf R)) = rw (flat-own (r .marks), flat-own (put own id (r .marks))) at P in
+      ≡ pad marksRoom (marksOf A ++ (put own id (r .marks) ++ marksOf R)) = rw
+      (flat-own (r .marks), flat-own (put own id (r .marks))) at P in
       ap (inserted live (from + k) (id ∷ [])) (e ∙ ap (pad marksRoom) (marks-of-append A (r ∷ R)))
       ∙ (Q ∙ ap (pad marksRoom) (sym (marks-of-append A (markRow id r ∷ R))))
 

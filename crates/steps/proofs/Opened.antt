@@ -44,7 +44,8 @@ module _ (A R : List Row) (r : Row) where
   heads-opened h at rows e f g l =
       let q = length-append A R in
       ap (inserted rows at (headWord r ∷ [])) (e ∙ ap (pad headsRoom) (heads-append A R))
-      ∙ (inserted-pad headsRoom at rows (headsOf A) (headsOf R) (headWord r ∷ []) (heads-length A ∙ sym f) (omega (arith, heads-length R)) (omega arith)
+      ∙ (inserted-pad headsRoom at rows (headsOf A) (headsOf R) (headWord r ∷ []) (heads-length A ∙ sym f)
+      (omega (arith, heads-length R)) (omega arith)
       ∙ ap (pad headsRoom) (sym (heads-append A (r ∷ R))))
 
   keys-opened : (k : List ℕ) (at rows : ℕ) → k ≡ pad keysRoom (keysOf (A ++ R)) → at ≡ length A → rows ≡ length (A ++ R) → rows < 264

@@ -30,7 +30,8 @@ pub among-is : (A : List Row) (r : Row) (R : List Row) → valuesOf (A ++ r ∷ 
 unfolding valuesOf
 among-is A r R = values-of-append A (r ∷ R) ∙ ap (λ l. valuesOf A ++ (l ++ valuesOf R)) (each-flat (r .values))
 
-module _ (A R : List Row) (r : Row) (v : List ℕ) (e : v ≡ pad valuesRoom (valuesOf (A ++ r ∷ R))) (from : ℕ) (f : from ≡ 6 * valuesIn A) where
+module _ (A R : List Row) (r : Row) (v : List ℕ) (e : v ≡ pad valuesRoom (valuesOf (A ++ r ∷ R))) (from : ℕ)
+    (f : from ≡ 6 * valuesIn A) where
   -- the words behind the row's values
   later : List ℕ
   later = valuesOf R ++ replicate (valuesRoom - length (valuesOf (A ++ r ∷ R))) 0
@@ -65,6 +66,7 @@ module _ (A R : List Row) (r : Row) (v : List ℕ) (e : v ≡ pad valuesRoom (va
         ≡ pad valuesRoom (among A (keep q (r .values)) R)
     values-kept q h =
         let d = values-between A r R in
-        ap (shrunk 0 live (from + length (r .values) * 6) from (flat valueWords (keep q (r .values)))) (e ∙ ap (pad valuesRoom) (among-is A r R))
+        ap (shrunk 0 live (from + length (r .values) * 6) from (flat valueWords (keep q (r .values))))
+        (e ∙ ap (pad valuesRoom) (among-is A r R))
         ∙ keep-pad 6 valueWords idOfValue strides-value valuesRoom from (from + length (r .values) * 6) live (valuesOf A) (valuesOf R) q
         (r .values) (omega (arith, values-length A)) refl (omega (arith, values-length R)) h

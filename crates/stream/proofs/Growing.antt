@@ -78,4 +78,5 @@ first-goes-on (suc d) (b ∷ x) t e h = go (ends b x) refl e (first-goes-on d x 
         → (first x ≡ length x → d + 5 ≤ length x → first (x ++ t) ≡ d + first (drop d (x ++ t)))
         → cond (ends b (x ++ t)) 1 (suc (first (x ++ t))) ≡ suc d + first (drop d (x ++ t))
     go true p q g = absurd (omega (arith, ends-long b x p))
-    go false p q g = rw (ends-on b x t (omega arith), p) (ap suc (g (omega arith) (omega arith)) ∙ sym (suc-add d (first (drop d (x ++ t)))))
+    go false p q g = rw (ends-on b x t (omega arith), p)
+        (ap suc (g (omega arith) (omega arith)) ∙ sym (suc-add d (first (drop d (x ++ t)))))

@@ -26,7 +26,8 @@ module _ (s s′ : List ℕ) (c : Cut) (n : ℕ) (h : Holds s c) (kept : take (c
       let f : c .from + (c .to - c .from) ≡ c .to = omega (arith, h .low) in
       ap (λ m. take m (drop (c .from) s′)) e
       ∙ (take-add (c .to - c .from) n (drop (c .from) s′)
-      ∙ (ap (λ l. l ++ take n (drop (c .to - c .from) (drop (c .from) s′))) (sym (drop-take (c .from) (c .to) s′) ∙ (ap (drop (c .from)) kept ∙ drop-take (c .from) (c .to) s))
+      ∙ (ap (λ l. l ++ take n (drop (c .to - c .from) (drop (c .from) s′)))
+      (sym (drop-take (c .from) (c .to) s′) ∙ (ap (drop (c .from)) kept ∙ drop-take (c .from) (c .to) s))
       ∙ ap (λ l. held s c ++ take n l) (drop-drop (c .to - c .from) (c .from) s′ ∙ ap (λ m. drop m s′) f)))
 
 -- The first i of the held bytes are moved, and those behind them stand where they stood.

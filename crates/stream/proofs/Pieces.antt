@@ -73,22 +73,31 @@ module _ (s : List ℕ) (c : Cut) (h : Holds s c) where
 
     hands : Hands s c last (firstPiece (c .passing) (take (first (held s c)) (held s c))) (behind c e)
     hands = record {
-      holds = record { low = omega (arith, reach, h .low); high = h .high; begun = λ f. absurd (let z : _≡_ {A = ℕ} 0 1 = cc in omega arith) };
+      holds = record {
+        low = omega (arith, reach, h .low);
+        high = h .high;
+        begun = λ f. absurd
+            (let z : _≡_ {A = ℕ} 0 1 = cc in omega arith);
+      };
       onward = omega (arith, first-one (held s c) (omega (arith, held-long)));
       same = refl;
       rest = λ t l.
           let f : first (held s c ++ t) ≡ first (held s c) = fixed t l in
           let m : first (held s c) ≤ length (held s c) = first-most (held s c) in
           let d : e - c .from ≡ first (held s c) = omega arith in
-          let g : held s (behind c e) ≡ drop (first (held s c)) (held s c) = held-from s c e (omega arith) false ∙ ap (λ n. drop n (held s c)) d in
+          let g : held s (behind c e) ≡ drop (first (held s c)) (held s c) = held-from s c e (omega arith) false ∙ ap
+          (λ n. drop n (held s c)) d in
           pieces-first (c .passing) (held s c ++ t) (rw length-append (omega (arith, held-long)))
           ∙ (ap (λ n. firstPiece (c .passing) (take n (held s c ++ t)) ∷ pieces false (drop n (held s c ++ t))) f
-          ∙ (ap (λ x. firstPiece (c .passing) x ∷ pieces false (drop (first (held s c)) (held s c ++ t))) (take-append-le (first (held s c)) (held s c) t m)
-          ∙ ap (λ x. firstPiece (c .passing) (take (first (held s c)) (held s c)) ∷ pieces false x) (drop-append-le (first (held s c)) (held s c) t m ∙ ap (λ l. l ++ t) (sym g))));
+          ∙ (ap (λ x. firstPiece (c .passing) x ∷ pieces false (drop (first (held s c)) (held s c ++ t)))
+          (take-append-le (first (held s c)) (held s c) t m)
+          ∙ ap (λ x. firstPiece (c .passing) (take (first (held s c)) (held s c)) ∷ pieces false x)
+          (drop-append-le (first (held s c)) (held s c) t m ∙ ap (λ l. l ++ t) (sym g))));
     }
 
     message-long : length (take (first (held s c)) (held s c)) ≡ e - c .from
-    message-long = length-take-le (first (held s c)) (held s c) (first-most (held s c)) ∙ (let d : first (held s c) ≡ e - c .from = omega arith in d)
+    message-long = length-take-le (first (held s c)) (held s c) (first-most (held s c))
+        ∙ (let d : first (held s c) ≡ e - c .from = omega arith in d)
 
     message-is : take (first (held s c)) (held s c) ≡ take (e - c .from) (drop (c .from) s)
     message-is =
@@ -110,7 +119,8 @@ module _ (s : List ℕ) (c : Cut) (h : Holds s c) where
         go true i q j = by (ap (λ p. firstPiece p m) i)
         go false i true j = by (ap (λ p. firstPiece p m) i ∙ long-judged m (omega (arith, message-long, ltb-true 463 (e - c .from) j)))
         go false i false j =
-            by (ap (λ p. firstPiece p m) i ∙ (short-judged m (omega (arith, message-long, ltb-false 463 (e - c .from) j)) ∙ ap whole message-is))
+            by (ap (λ p. firstPiece p m) i ∙ (short-judged m (omega (arith, message-long, ltb-false 463 (e - c .from) j)) ∙ ap whole
+            message-is))
 
   -- nothing is held
   pub empties : (last : Bool) → c .from ≡ c .to → Waits s c last c
@@ -129,7 +139,8 @@ module _ (s : List ℕ) (c : Cut) (h : Holds s c) where
           ap (λ p. pieces p (held s c)) i ∙ (ap (λ k. pieces false (take k (drop (c .from) s))) n ∙ pieces-none)
 
 -- a message that is too long goes on from the place d of a text
-goes-on : (p : Bool) (t : List ℕ) (d : ℕ) → first t ≡ d + first (drop d t) → d < length t → 463 < first t → pieces p t ≡ pieces true (drop d t)
+goes-on : (p : Bool) (t : List ℕ) (d : ℕ) → first t ≡ d + first (drop d t) → d < length t → 463 < first t → pieces p t ≡ pieces true
+    (drop d t)
 goes-on p t d f h l =
     pieces-first p t (omega arith)
     ∙ (ap (λ q. q ∷ pieces false (drop (first t) t)) (long p)
@@ -184,7 +195,8 @@ append-none : (l : List ℕ) → l ++ [] ≡ l
 append-none [] = refl
 append-none (x ∷ l) = ap (λ m. x ∷ m) (append-none l)
 
-module _ (s : List ℕ) (c : Cut) (h : Holds s c) (e : ℕ) (found : Ends (take (c .to) s) (c .from) e) (some : c .from ≢ c .to) (last : Bool) where
+module _ (s : List ℕ) (c : Cut) (h : Holds s c) (e : ℕ) (found : Ends (take (c .to) s) (c .from) e) (some : c .from ≢ c .to)
+    (last : Bool) where
   place : e ≡ c .from + first (held s c)
   place = found .place ∙ ap (λ l. c .from + first l) (drop-take (c .from) (c .to) s)
 

@@ -46,7 +46,8 @@ pub run-messages : {s : List ℕ} {c : Cut} {chunks : List (List ℕ)} {ps : Lis
 unfolding pieces
 run-messages {s} {c} {chunks} e f r =
     let n : c .to - c .from ≡ 0 = omega arith in
-    run-pieces r ∙ (ap (λ b. pieces b (held s c ++ joined chunks)) f ∙ ap (λ k. pieces false (take k (drop (c .from) s) ++ joined chunks)) n)
+    run-pieces r ∙ (ap (λ b. pieces b (held s c ++ joined chunks)) f ∙ ap
+    (λ k. pieces false (take k (drop (c .from) s) ++ joined chunks)) n)
 
 -- a message that is too long is refused
 pub long-refused : (T : Terminal) (m : List ℕ) → 463 < length m → Receives T m R.Layout T

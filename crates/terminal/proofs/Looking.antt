@@ -36,7 +36,8 @@ none-of true = refl
 none-of false = refl
 
 module _ (T : Tables) (t : List ℕ) (s : State) (i : ℕ) where
-  module _ (id : ℕ) (I : TellsId t (s .waiting) i id) (r : Bool) (repeats : (o : Operation) → o .id ≡ id → r ≡ repeated (s .seen .at) o) where
+  module _ (id : ℕ) (I : TellsId t (s .waiting) i id) (r : Bool)
+      (repeats : (o : Operation) → o .id ≡ id → r ≡ repeated (s .seen .at) o) where
     -- an operation at i, with what was read of it
     record Here (D : Terminal) (o : Operation) : Type 0 where
       sent : Sent o
@@ -90,14 +91,17 @@ module _ (T : Tables) (t : List ℕ) (s : State) (i : ℕ) where
       unfolding ready
       looks-ahead x D A R o k w e =
           let h = owns D A R o k w e in
-          early (omega arith) D o h (rw (ne-eqb (ownIn (o .deps) o) (ownIn (D .document .seen) o) (λ q. omega (arith, h .its-own, h .its-last))))
+          early (omega arith) D o h (rw (ne-eqb (ownIn (o .deps) o) (ownIn (D .document .seen) o)
+          (λ q. omega (arith, h .its-own, h .its-last))))
 
-      pub looks-early : last ≤ own → (deps : Counters) → TellsDeps t (s .waiting) i (deps .at) → (d : Bool) → d ≡ atMost (deps .at) (s .seen .at)
+      pub looks-early : last ≤ own → (deps : Counters) → TellsDeps t (s .waiting) i (deps .at) → (d : Bool) → d ≡ atMost (deps .at)
+          (s .seen .at)
           → d ≡ false → Looks T t s i J.Early
       unfolding ready TellsDeps
       looks-early x deps E d q y D A R o k w e =
           let h = owns D A R o k w e in
-          let a : atMost (o .deps) (D .document .seen) ≡ false = rw (← E A R o (rw w at (k .waiting)) e, ← h .at-i .same-seen) (sym q ∙ y) in
+          let a : atMost (o .deps) (D .document .seen) ≡ false = rw (← E A R o (rw w at (k .waiting)) e, ← h .at-i .same-seen)
+          (sym q ∙ y) in
           early x D o h (rw a (none-of (eqb (ownIn (o .deps) o) (ownIn (D .document .seen) o))))
 
   pub looks-whole : (op : M.Operation) (r : Judged) → Tells t (s .waiting) i op → Judges T (s .counts) (s .seen) op r → Looks T t s i r

@@ -203,6 +203,7 @@ module _ (X Y : List ℕ) (o : Operation) (at : ℕ) (e : length X ≡ at) (v : 
               ∙ (ap (deedBy (deedCode (deedOf (o .way)))) (number-there 2 (omega arith)) ∙ deed-back (deedOf (o .way))));
           words =
               R .words ∙ (run-inside X (opWords o) Y at e 36 4 (omega arith)
-              ∙ row-value (o .id) (pad 8 (o .deps)) K (suc (steps (o .way))) (deedOf (o .way)) (deedWords (o .way)) f g (deed-long (o .way)));
+              ∙ row-value (o .id) (pad 8 (o .deps)) K (suc (steps (o .way))) (deedOf (o .way)) (deedWords (o .way)) f g
+              (deed-long (o .way)));
         };
       }

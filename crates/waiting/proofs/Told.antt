@@ -26,7 +26,8 @@ module _ (t : List ℕ) (n i : ℕ) where
   pub tells-id : (r : ℕ) → r ≡ getD t (40 * i) 0 → TellsId t n i r
   unfolding TellsId
   tells-id r q A R o W e =
-      q ∙ rw (there t n i A R o W e) (id-there (flat opWords A) (behind A o R) o (40 * i) (before-long t n i A R o W e) (valid-there A R o W))
+      q ∙ rw (there t n i A R o W e) (id-there (flat opWords A) (behind A o R) o (40 * i) (before-long t n i A R o W e)
+      (valid-there A R o W))
 
   pub tells-own : (r : ℕ) → r ≡ getD t (40 * i + 1 + getD t (40 * i) 0 % 8) 0 → TellsOwn t n i r
   unfolding TellsOwn
@@ -39,12 +40,14 @@ module _ (t : List ℕ) (n i : ℕ) where
   pub tells-deps : (r : List ℕ) → r ≡ counters (run (40 * i + 1) 8 t) → TellsDeps t n i r
   unfolding TellsDeps
   tells-deps r q A R o W e =
-      q ∙ rw (there t n i A R o W e) (deps-there (flat opWords A) (behind A o R) o (40 * i) (before-long t n i A R o W e) (valid-there A R o W))
+      q ∙ rw (there t n i A R o W e) (deps-there (flat opWords A) (behind A o R) o (40 * i) (before-long t n i A R o W e)
+      (valid-there A R o W))
 
   pub tells : (r : M.Operation) → ReadsRow t (40 * i) r → Tells t n i r
   unfolding Tells
   tells r q A R o W e =
-      row-means (flat opWords A) (behind A o R) o (40 * i) (before-long t n i A R o W e) (valid-there A R o W) r (rw (there t n i A R o W e) at q)
+      row-means (flat opWords A) (behind A o R) o (40 * i) (before-long t n i A R o W e) (valid-there A R o W) r
+      (rw (there t n i A R o W e) at q)
 
   pub takes-out : (t′ : List ℕ) → t′ ≡ closed 0 (40 * n) (40 * i + 40) (40 * i) t → TakesOut t n i t′ (n - 1)
   unfolding TakesOut

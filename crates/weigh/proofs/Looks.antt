@@ -123,7 +123,8 @@ sight-none h m v rows s true d f k c rs n p l H q (missing y x) =
     rw x (refl, new-none d n p .values)
 sight-none h m v rows s false d f k c rs n p l H q (missing y x) = rw x (new-none d n p)
 
-pub sight-row : (h m v : List ℕ) (rows : ℕ) (s : Sight) (alone : Bool) (d : List ℕ) (g : Lost) → alone ≡ true → s .there ≡ true → RowGone h m v (s .at) d g
+pub sight-row : (h m v : List ℕ) (rows : ℕ) (s : Sight) (alone : Bool) (d : List ℕ) (g : Lost) → alone ≡ true → s .there ≡ true
+    → RowGone h m v (s .at) d g
     → SightGone h m v rows s alone d (record { marks = 0; values = g .values })
 sight-row h m v rows s alone d g a y W k c rs n p l H q (missing f x) = absurd (false-true (s .there) f y)
 sight-row h m v rows s alone d g a y W k c rs n p l H q (standing F r R y′ e b z x) =

@@ -152,8 +152,20 @@ module _ (h k m v : List ℕ) (rows : ℕ) (from : Stop) (n : ℕ) (hangs : Bool
   unfolding wayWords wayNumber steps
   step-weighed long more look past under = record {
     few-places =
-        omega (arith, carried-places U (s .there) (eqb len 17) (covered d hi) true, marked-places x deed, under .few-places, length-drop 3 way);
-    few-marks = omega (arith, carried-marks U (s .there) (eqb len 17) (covered d hi) true, marked-marks x deed, under .few-marks, length-drop 3 way);
+        omega (
+          arith,
+          carried-places U (s .there) (eqb len 17) (covered d hi) true,
+          marked-places x deed,
+          under .few-places,
+          length-drop 3 way,
+        );
+    few-marks = omega (
+      arith,
+      carried-marks U (s .there) (eqb len 17) (covered d hi) true,
+      marked-marks x deed,
+      under .few-marks,
+      length-drop 3 way,
+    );
     is = λ c A B w H q f e g ok N. all c A B w H q f e g ok N;
   }
     where

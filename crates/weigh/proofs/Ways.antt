@@ -25,7 +25,8 @@ use Rattle.tables.specs.declared.Counts.{Counts}
 use Rattle.tables.specs.declared.Stop.{Stop}
 use Rattle.weigh.specs.declared.Sight.{Sight}
 use Rattle.weigh.specs.declared.Weight.{Weight}
-use Rattle.weigh.specs.Weighs.{Sees, missing, standing, Looks, orNew, isPlain, wayNumber, Weighs, nothingWeighed, elementWeighed, carried}
+use Rattle.weigh.specs.Weighs.{Sees, missing, standing, Looks, orNew}
+use Rattle.weigh.specs.Weighs.{isPlain, wayNumber, Weighs, nothingWeighed, elementWeighed, carried}
 use Rattle.weigh.specs.Weighs.{PlaceWeighed, WayWeighed}
 use Rattle.weigh.proofs.Looks.{passOf, meantOf, spot-agrees, spot-tells}
 use Rattle.weigh.proofs.Weights.{Ends, ends, and-false, map-carry, list-carry, carried-places, carried-marks}

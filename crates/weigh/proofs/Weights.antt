@@ -22,7 +22,8 @@ use Rattle.weigh.specs.declared.Lost.{Lost}
 use Rattle.weigh.specs.declared.Sight.{Sight}
 use Rattle.weigh.specs.declared.Weight.{Weight}
 use Rattle.weigh.specs.Goes.{Goes}
-use Rattle.weigh.specs.Weighs.{Sees, orNew, GoesAt, SightGone, wayNumber, Weighs, nothingWeighed, marked, unled, placed, carried, PlaceWeighed}
+use Rattle.weigh.specs.Weighs.{Sees, orNew, GoesAt, SightGone, wayNumber, Weighs}
+use Rattle.weigh.specs.Weighs.{nothingWeighed, marked, unled, placed, carried, PlaceWeighed}
 
 -- A way that ends here.
 

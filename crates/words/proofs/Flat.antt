@@ -1,4 +1,5 @@
--- Members and their rows: where `put` puts a member among ascending ones, by its rank; and that what is done to rows is what is done to members.
+-- Members and their rows: where `put` puts a member among ascending ones, by its rank; and that what is done to rows is what is done to
+-- members.
 -- Assumes nothing.
 use Prim.Native.Nat.{ℕ, zero, suc, _+_, _*_, _≤_, _<_}
 use mathlib.Core.Path.{_≡_, refl, sym, ap, _∙_}
@@ -72,7 +73,8 @@ module _ {A : Type 0} (number : A → ℕ) where
     where
       go : Tri (number x) (number a)
           → put number a xs ≡ take (rankOf number (number a) xs) xs ++ a ∷ drop (rankOf number (number a) xs) xs
-          → put number a (x ∷ xs) ≡ take (rankOf number (number a) (x ∷ xs)) (x ∷ xs) ++ a ∷ drop (rankOf number (number a) (x ∷ xs)) (x ∷ xs)
+          → put number a (x ∷ xs) ≡ take (rankOf number (number a) (x ∷ xs)) (x ∷ xs) ++ a ∷ drop
+          (rankOf number (number a) (x ∷ xs)) (x ∷ xs)
       go (less q) r = rw (rank-yes (number a) x xs q) (put-less a x xs q ∙ ap (λ (l : List A). x ∷ l) r)
       go (same e) r = absurd (h (inl (sym e)))
       go (more q) r =
@@ -94,7 +96,8 @@ module _ {A : Type 0} (number : A → ℕ) where
           → (Has number (number a) xs
           → put number a xs ≡ take (rankOf number (number a) xs) xs ++ a ∷ drop (suc (rankOf number (number a) xs)) xs)
           → Has number (number a) (x ∷ xs)
-          → put number a (x ∷ xs) ≡ take (rankOf number (number a) (x ∷ xs)) (x ∷ xs) ++ a ∷ drop (suc (rankOf number (number a) (x ∷ xs))) (x ∷ xs)
+          → put number a (x ∷ xs) ≡ take (rankOf number (number a) (x ∷ xs)) (x ∷ xs) ++ a ∷ drop
+          (suc (rankOf number (number a) (x ∷ xs))) (x ∷ xs)
       go (less q) r (inl e) = absurd (omega arith)
       go (less q) r (inr m) = rw (rank-yes (number a) x xs q) (put-less a x xs q ∙ ap (λ (l : List A). x ∷ l) (r m))
       go (same e) r m =

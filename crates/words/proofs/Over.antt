@@ -1,4 +1,5 @@
--- The laws of `run` and `overAt`, on lists of any element type, and of what is made of them: opened then written is inserted; kept then closed is shrunk.
+-- The laws of `run` and `overAt`, on lists of any element type, and of what is made of them: opened then written is inserted; kept then
+-- closed is shrunk.
 -- Assumes nothing.
 use Prim.Native.Nat.{ℕ, _+_, _-_, _≤_, _<_}
 use mathlib.Core.Path.{_≡_, refl, sym, ap, _∙_}
@@ -6,7 +7,8 @@ use mathlib.Core.List.{List, [], _∷_, _++_, append-assoc}
 use native.Mathlib.Numerals.{add-one}
 use native.Mathlib.Nat.{add-zero}
 use native.Mathlib.Omega.{arith}
-use lib.ListN.{length, take, drop, getD, set, replicate, length-append, length-take, length-drop, length-replicate, take-append-drop, List·getD-append}
+use lib.ListN.{length, take, drop, getD, set, replicate}
+use lib.ListN.{length-append, length-take, length-drop, length-replicate, take-append-drop, List·getD-append}
 use lib.Seq.{drop-cons, length-take-le, take-at, drop-at, take-append-le, take-take, drop-drop, take-add, getD-take, getD-drop}
 use lib.Seq.{drop-append-add, getD-append-add, set-split}
 use Rattle.words.specs.Words.{run, overAt, opened, closed, inserted, shrunk}
@@ -175,7 +177,8 @@ module _ {A : Type 0} where
   pub over-parts : (X B Y new : List A) (a : ℕ) → length X ≡ a → length new ≡ length B → overAt a new (X ++ (B ++ Y)) ≡ X ++ (new ++ Y)
   unfolding overAt
   over-parts X B Y new a e f =
-      let g : drop (a + length new) (X ++ (B ++ Y)) ≡ Y = rw (← e, f) (drop-append-add X (B ++ Y) (length B) ∙ drop-at B Y (length B) refl) in
+      let g : drop (a + length new) (X ++ (B ++ Y)) ≡ Y = rw (← e, f)
+      (drop-append-add X (B ++ Y) (length B) ∙ drop-at B Y (length B) refl) in
       rw (take-at X (B ++ Y) a e, g)
 
   -- X, then B up to `live`, then room Z for the new words, behind which stands Y
@@ -185,7 +188,8 @@ module _ {A : Type 0} where
   inserted-parts X B Z Y new at live e f g =
       let n : length B ≡ live - at = omega arith in
       let m : length (new ++ B) ≡ length (B ++ Z) = simp length-append (omega arith) in
-      rw (run-parts X B (Z ++ Y) at (live - at) e n, ← append-assoc B Z Y) (over-parts X (B ++ Z) Y (new ++ B) at e m ∙ rw (append-assoc new B Y))
+      rw (run-parts X B (Z ++ Y) at (live - at) e n, ← append-assoc B Z Y)
+      (over-parts X (B ++ Z) Y (new ++ B) at e m ∙ rw (append-assoc new B Y))
 
   -- X, then B whose words are replaced by fewer, then C up to `live`, then Y
   pub shrunk-parts : (z : A) (X B C Y new : List A) (to from live : ℕ) → length X ≡ to → to + length B ≡ from → from + length C ≡ live
@@ -198,5 +202,6 @@ module _ {A : Type 0} where
       let d : from - (to + length new) ≡ length B - length new = omega arith in
       let R : List A = C ++ replicate (length B - length new) z in
       let m : length (new ++ R) ≡ length (B ++ C) = simp (length-append, length-replicate) (omega arith) in
-      let r : run from (live - from) (X ++ (B ++ (C ++ Y))) ≡ C = rw (← append-assoc X B (C ++ Y)) (run-parts (X ++ B) C Y from (live - from) b c) in
+      let r : run from (live - from) (X ++ (B ++ (C ++ Y))) ≡ C = rw (← append-assoc X B (C ++ Y))
+      (run-parts (X ++ B) C Y from (live - from) b c) in
       rw (r, d, ← append-assoc B C Y) (over-parts X (B ++ C) Y (new ++ R) to e m ∙ simp append-assoc)

@@ -49,7 +49,8 @@ pub inserted-pad : (n at live : ℕ) (X B new : List ℕ) → length X ≡ at �
     → inserted live at new (pad n (X ++ B)) ≡ pad n (X ++ (new ++ B))
 inserted-pad n at live X B new e f h =
     ap (inserted live at new) (pad-room n (length new) live X [] B (omega arith) h)
-    ∙ (inserted-parts X B (replicate (length new) 0) (replicate (n - (live + length new)) 0) new at live e f (length-replicate (length new) 0)
+    ∙ (inserted-parts X B (replicate (length new) 0) (replicate (n - (live + length new)) 0) new at live e f
+    (length-replicate (length new) 0)
     ∙ sym (pad-parts n (live + length new) X new B (omega arith)))
 
 -- Words in the place of more, and the rest closed up to them.
@@ -87,7 +88,8 @@ module _ {A : Type 0} (w : ℕ) (row : A → List ℕ) (number : A → ℕ) (S :
       let b : length (put number a xs) * w ≡ length xs * w + w =
       ap (λ (k : ℕ). k * w) (put-more number a xs s o ∙ add-one (length xs)) ∙ suc-mul (length xs) w in
       ap (inserted live at (row a)) (pad-room n w live X (flat row xs) B (omega arith) h)
-      ∙ (put-inserted w row number S X B (replicate w 0) (replicate (n - (live + w)) 0) a xs from r at live s o x q p l (length-replicate w 0)
+      ∙ (put-inserted w row number S X B (replicate w 0) (replicate (n - (live + w)) 0) a xs from r at live s o x q p l
+      (length-replicate w 0)
       ∙ sym (pad-parts n (live + w) X (flat row (put number a xs)) B (omega arith)))
 
   -- Members dropped, and the rest closed up to those kept.

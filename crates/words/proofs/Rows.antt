@@ -1,4 +1,5 @@
--- Rows of w words: what a row more does to those kept, counted and ranked, and the loops over rows. Marks are rows of one word: `rows-one`, `rank-one`.
+-- Rows of w words: what a row more does to those kept, counted and ranked, and the loops over rows. Marks are rows of one word:
+-- `rows-one`, `rank-one`.
 -- Assumes nothing.
 use Prim.Native.Nat.{ℕ, zero, suc, _+_, _*_, _-_, _≤_, _<_}
 use mathlib.Core.Path.{_≡_, refl, sym, ap, _∙_}

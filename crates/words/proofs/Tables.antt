@@ -1,4 +1,5 @@
--- What the code over the tables cites: the steps composed, on a table in parts. X stands before the rows in question, B or C behind them up to the
+-- What the code over the tables cites: the steps composed, on a table in parts. X stands before the rows in question, B or C behind
+-- them up to the
 -- last live word, Z is room, Y the rest.
 -- Assumes nothing.
 use Prim.Native.Nat.{ℕ, _+_, _*_, _-_, _≤_}
@@ -56,9 +57,11 @@ module _ {A : Type 0} (w : ℕ) (row : A → List ℕ) (number : A → ℕ) (S :
       let j : length P ≡ r * w = flat-length w row number S (take r xs) ∙ ap (λ (k : ℕ). k * w) i in
       let e : flat row xs ≡ P ++ Q =
       ap (λ (l : List A). flat row l) (sym (take-append-drop r xs)) ∙ flat-append w row number S (take r xs) (drop r xs) in
-      let m : length P + length Q ≡ length xs * w = sym (length-append P Q) ∙ ap (λ (l : List ℕ). length l) (sym e) ∙ flat-length w row number S xs in
+      let m : length P + length Q ≡ length xs * w = sym (length-append P Q) ∙ ap (λ (l : List ℕ). length l) (sym e) ∙ flat-length w
+      row number S xs in
       let u : put number a xs ≡ take r xs ++ a ∷ drop r xs = rw q (put-new number a xs s n) in
-      let v : flat row (put number a xs) ≡ P ++ (row a ++ Q) = ap (λ (l : List A). flat row l) u ∙ flat-between w row number S (take r xs) a (drop r xs) in
+      let v : flat row (put number a xs) ≡ P ++ (row a ++ Q) = ap (λ (l : List A). flat row l) u ∙ flat-between w row number S
+      (take r xs) a (drop r xs) in
       let f : length (X ++ P) ≡ at = simp length-append (omega arith) in
       let g : at + length (Q ++ B) ≡ live = simp length-append (omega arith) in
       let t : X ++ (flat row xs ++ (B ++ (Z ++ Y))) ≡ (X ++ P) ++ ((Q ++ B) ++ (Z ++ Y)) = rw e (simp append-assoc) in

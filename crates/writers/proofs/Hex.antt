@@ -59,7 +59,8 @@ pub size-hex : (words : List ℕ) (n : ℕ) → length (hex (bytesOf words n)) �
 size-hex words n = omega (arith, hex-length (bytesOf words n), bytes-length words n)
 
 hex-more : (words : List ℕ) (i : ℕ)
-    → (hex (bytesOf words i) ++ (hexDigit (byteOf words i / 16) ∷ [])) ++ (hexDigit (byteOf words i % 16) ∷ []) ≡ hex (bytesOf words (i + 1))
+    → (hex (bytesOf words i) ++ (hexDigit (byteOf words i / 16) ∷ [])) ++ (hexDigit (byteOf words i % 16) ∷ []) ≡ hex
+    (bytesOf words (i + 1))
 unfolding bytesOf hex
 hex-more words i =
     rw (add-one i, hex-append (bytesOf words i) (byteOf words i ∷ [])) (append-assoc (hex (bytesOf words i)) _ _)
@@ -76,7 +77,8 @@ hexing-none words n before = record { most = omega arith; long = refl; wrote = w
 
 module _ {words : List ℕ} {n : ℕ} {before after : List ℕ} {i : ℕ} (k : Hexing words n before after i) where
   -- the byte b is written as the digits x and y
-  pub hexing-more : length (hex (bytesOf words n)) ≤ length before → i < n → {b x y : ℕ} → b ≡ byteOf words i → x ≡ hexDigit (b / 16) → y ≡ hexDigit (b % 16)
+  pub hexing-more : length (hex (bytesOf words n)) ≤ length before → i < n → {b x y : ℕ} → b ≡ byteOf words i → x ≡ hexDigit
+      (b / 16) → y ≡ hexDigit (b % 16)
       → Hexing words n before (set (set after (2 * i) x) (2 * i + 1) y) (i + 1)
   hexing-more fits h {b} {x} {y} e p q =
       let t = hex (bytesOf words i) in

@@ -143,7 +143,8 @@ module _ {text before after : List ℕ} {i : ℕ} (k : Copying text before after
   pub copy-more : length text ≤ length before → i < length text → Copying text before (set after i (getD text i 0)) (i + 1)
   copy-more fits h =
       let l : length (take i text) < length before = simp length-take (omega arith) in
-      let w : Wrote (take i text ++ (getD text i 0 ∷ [])) before (set after i (getD text i 0)) (i + 1) = wrote-byte (k .wrote) (getD text i 0) l in
+      let w : Wrote (take i text ++ (getD text i 0 ∷ [])) before (set after i (getD text i 0)) (i + 1) = wrote-byte (k .wrote)
+      (getD text i 0) l in
       let e : take i text ++ (getD text i 0 ∷ []) ≡ take (i + 1) text = rw add-one (sym (take-suc text i 0 h)) in
       record { most = omega arith; long = length-set after i (getD text i 0) ∙ k .long; wrote = wrote-as e w }
 

@@ -3,7 +3,8 @@ use native.Mathlib.Omega.{arith}
 use mathlib.Core.Path.{refl, sym, _∙_}
 use borrow.Author.Tests.{not-true, not-false}
 use lib.ListN.{length}
-use Rattle.apply.proofs.Descending.{part-is, part-shorter, descend-ends, descend-deep, descend-odd, descend-inserts, descend-stays, descend-finishes, descend-goes}
+use Rattle.apply.proofs.Descending.{part-is, part-shorter, descend-ends, descend-deep}
+use Rattle.apply.proofs.Descending.{descend-odd, descend-inserts, descend-stays, descend-finishes, descend-goes}
 use borrow.Author.Needs.{needs}
 use Prim.Native.Nat.{ℕ, _<_}
 use borrow.Fn.Kinds.{In}
@@ -49,10 +50,14 @@ claims t = (
 )
 
 descend-returns : (t : ℕ) → descend-lts.Need-returns (claims t) (descend-at t) descend.Post
-descend-returns t c = descend-ends (c .before .before .before .before .before .before .args .o) _ _ _ _ _ (omega arith)
+descend-returns t c =
+    let at-start = c .before .before .before .before .before .before in
+    descend-ends (at-start .args .o) _ _ _ _ _ (omega arith)
 
 descend-returns-2 : (t : ℕ) → descend-lts.Need-returns-2 (claims t) (descend-at t) descend.Post
-descend-returns-2 t c = descend-deep (c .before .before .before .before .before .before .before .args .o) _ _ _ _ _ (omega arith)
+descend-returns-2 t c =
+    let at-start = c .before .before .before .before .before .before .before in
+    descend-deep (at-start .args .o) _ _ _ _ _ (omega arith)
 
 descend-shared-slice-read-hi : (t : ℕ) → descend-lts.Need-shared-slice-read-hi (claims t) (descend-at t) descend.Post
 descend-shared-slice-read-hi t c = omega arith
@@ -83,7 +88,12 @@ descend-same-length-4 t c = search needs
 
 descend-returns-3 : (t : ℕ) → descend-lts.Need-returns-3 (claims t) (descend-at t) descend.Post
 descend-returns-3 t c =
-    descend-inserts (c .before .before .before .before .before .before .before .before .before .before .before .before .before .before .before .before .before .before .before .before .before .before .before .before .before .args .o) _ _ _ _ _ _ _ _ _ _ (sym (c .before .before .before .before .before .before .before .before .before .before .before .before .before .before .inserts-here .ensures) ∙ c .before .before .before .before .before .before .before .before .before .before .before .before .before .if3 .taken) refl refl (omega arith) (c .before .before .before .before .before .before .before .before .put-element .ensures)
+    let at-put-element = c .before .before .before .before .before .before .before .before in
+    let at-if3 = at-put-element .before .before .before .before .before in
+    let at-inserts-here = at-if3 .before in
+    let at-start = at-inserts-here .before .before .before .before .before .before .before .before .before .before .before in
+    descend-inserts (at-start .args .o) _ _ _ _ _ _ _ _ _ _ (sym (at-inserts-here .inserts-here .ensures) ∙ at-if3 .if3 .taken) refl
+    refl (omega arith) (at-put-element .put-element .ensures)
 
 descend-reach-requires : (t : ℕ) → descend-lts.Need-reach-requires (claims t) (descend-at t) descend.Post
 descend-reach-requires t c κs = search needs
@@ -96,8 +106,15 @@ descend-same-length-6 t c = search needs
 
 descend-returns-4 : (t : ℕ) → descend-lts.Need-returns-4 (claims t) (descend-at t) descend.Post
 descend-returns-4 t c =
-    descend-stays (c .before .before .before .before .before .before .before .before .before .before .before .before .before .before .before .before .before .before .before .before .before .args .o) _ _ _ _ _ _ _ _ _ _ _ _ (omega (arith, c .before .before .before .before .before .before .before .before .before .before .before .before .before .before .before .if1 .left)) (sym (c .before .before .before .before .before .before .before .before .before .before .inserts-here .ensures) ∙ c .before .before .before .before .before .before .before .before .before .if3 .left) refl refl refl
-    (omega (arith, c .before .before .before .before .before .before .before .before .before .before .before .before .before .before .before .if1 .left)) (omega (arith, c .before .before .before .before .before .before .before .before .before .before .before .before .before .before .if2 .left)) _ _ (c .before .before .before .before .before .before .reach .result) (c .before .before .before .before .before .before .reach .ensures) (not-true _ (c .if4 .taken))
+    let at-reach = c .before .before .before .before .before .before in
+    let at-if3 = at-reach .before .before .before in
+    let at-inserts-here = at-if3 .before in
+    let at-if2 = at-inserts-here .before .before .before .before in
+    let at-if1 = at-if2 .before in
+    let at-start = at-if1 .before .before .before .before .before .before in
+    descend-stays (at-start .args .o) _ _ _ _ _ _ _ _ _ _ _ _ (omega (arith, at-if1 .if1 .left))
+    (sym (at-inserts-here .inserts-here .ensures) ∙ at-if3 .if3 .left) refl refl refl (omega (arith, at-if1 .if1 .left))
+    (omega (arith, at-if2 .if2 .left)) _ _ (at-reach .reach .result) (at-reach .reach .ensures) (not-true _ (c .if4 .taken))
 
 descend-finish-requires : (t : ℕ) → descend-lts.Need-finish-requires (claims t) (descend-at t) descend.Post
 descend-finish-requires t c κs = search needs
@@ -116,8 +133,19 @@ descend-same-length-10 t c = search needs
 
 descend-returns-5 : (t : ℕ) → descend-lts.Need-returns-5 (claims t) (descend-at t) descend.Post
 descend-returns-5 t c =
-    descend-finishes (c .before .before .before .before .before .before .before .before .before .before .before .before .before .before .before .before .before .before .before .before .before .before .before .before .before .before .before .before .before .before .before .before .before .before .args .o) _ _ _ _ _ _ _ _ _ _ _ _ (omega (arith, c .before .before .before .before .before .before .before .before .before .before .before .before .before .before .before .before .before .before .before .before .before .before .before .before .before .before .before .before .if1 .left)) (sym (c .before .before .before .before .before .before .before .before .before .before .before .before .before .before .before .before .before .before .before .before .before .before .before .inserts-here .ensures) ∙ c .before .before .before .before .before .before .before .before .before .before .before .before .before .before .before .before .before .before .before .before .before .before .if3 .left) refl refl refl
-    (omega (arith, c .before .before .before .before .before .before .before .before .before .before .before .before .before .before .before .before .before .before .before .before .before .before .before .before .before .before .before .before .if1 .left)) (omega (arith, c .before .before .before .before .before .before .before .before .before .before .before .before .before .before .before .before .before .before .before .before .before .before .before .before .before .before .before .if2 .left)) _ _ (c .before .before .before .before .before .before .before .before .before .before .before .before .before .before .before .before .before .before .before .reach .result) (c .before .before .before .before .before .before .before .before .before .before .before .before .before .before .before .before .before .before .before .reach .ensures) _ _ _ _ _ (not-false _ (c .before .before .before .before .before .before .before .before .before .before .before .before .before .if4 .left)) (c .before .before .before .before .before .before .before .before .before .before .if5 .taken) (c .before .before .before .before .before .before .finish .ensures)
+    let at-finish = c .before .before .before .before .before .before in
+    let at-if5 = at-finish .before .before .before .before in
+    let at-if4 = at-if5 .before .before .before in
+    let at-reach = at-if4 .before .before .before .before .before .before in
+    let at-if3 = at-reach .before .before .before in
+    let at-inserts-here = at-if3 .before in
+    let at-if2 = at-inserts-here .before .before .before .before in
+    let at-if1 = at-if2 .before in
+    let at-start = at-if1 .before .before .before .before .before .before in
+    descend-finishes (at-start .args .o) _ _ _ _ _ _ _ _ _ _ _ _ (omega (arith, at-if1 .if1 .left))
+    (sym (at-inserts-here .inserts-here .ensures) ∙ at-if3 .if3 .left) refl refl refl (omega (arith, at-if1 .if1 .left))
+    (omega (arith, at-if2 .if2 .left)) _ _ (at-reach .reach .result) (at-reach .reach .ensures) _ _ _ _ _
+    (not-false _ (at-if4 .if4 .left)) (at-if5 .if5 .taken) (at-finish .finish .ensures)
 
 descend-same-length-11 : (t : ℕ) → descend-lts.Need-same-length-11 (claims t) (descend-at t) descend.Post
 descend-same-length-11 t c = search needs
@@ -126,7 +154,11 @@ descend-same-length-12 : (t : ℕ) → descend-lts.Need-same-length-12 (claims t
 descend-same-length-12 t c = search needs
 
 descend-returns-6 : (t : ℕ) → descend-lts.Need-returns-6 (claims t) (descend-at t) descend.Post
-descend-returns-6 t c = descend-odd (c .before .before .before .before .before .before .before .before .before .before .before .before .before .before .before .before .before .before .before .before .before .before .before .before .before .args .o) _ _ _ _ _ _ _ _ (omega (arith, c .before .before .before .before .before .before .before .before .before .before .before .before .before .before .before .before .before .before .before .if1 .left, c .before .if5 .left)) (c .if6 .taken)
+descend-returns-6 t c =
+    let at-if1 = c .before .before .before .before .before .before .before .before
+    .before .before .before .before .before .before .before .before .before .before .before in
+    let at-start = at-if1 .before .before .before .before .before .before in
+    descend-odd (at-start .args .o) _ _ _ _ _ _ _ _ (omega (arith, at-if1 .if1 .left, c .before .if5 .left)) (c .if6 .taken)
 
 descend-shared-slice-read-third : (t : ℕ) → descend-lts.Need-shared-slice-read-third (claims t) (descend-at t) descend.Post
 descend-shared-slice-read-third t c = omega arith
@@ -135,7 +167,10 @@ descend-past-requires : (t : ℕ) → descend-lts.Need-past-requires (claims t) 
 descend-past-requires t c κs = search needs
 
 descend-add-descend : (t : ℕ) → descend-lts.Need-add-descend (claims t) (descend-at t) descend.Post
-descend-add-descend t c = omega (arith, c .before .before .before .before .before .before .before .before .before .before .before .before .before .before .before .before .before .before .before .before .before .before .before .before .before .if2 .left)
+descend-add-descend t c =
+    let at-if2 = c .before .before .before .before .before .before .before .before .before .before .before
+    .before .before .before .before .before .before .before .before .before .before .before .before .before .before in
+    omega (arith, at-if2 .if2 .left)
 
 descend-sub-descend : (t : ℕ) → descend-lts.Need-sub-descend (claims t) (descend-at t) descend.Post
 descend-sub-descend t c = omega arith
@@ -147,16 +182,30 @@ descend-part-descend-end : (t : ℕ) → descend-lts.Need-part-descend-end (clai
 descend-part-descend-end t c = omega arith
 
 descend-descend-requires : (t : ℕ) → descend-lts.Need-descend-requires (claims t) (descend-at t) descend.Post
-descend-descend-requires t c κs = (omega (arith, part-shorter (c .before .before .before .before .before .before .before .before .before .before .before .before .before .before .before .before .before .before .before .before .before .before .before .before .before .before .before .before .before .before .before .before .before .args .way .now) (omega (arith, c .before .before .before .before .before .before .before .before .before .before .before .before .before .before .before .before .before .before .before .before .before .before .before .before .before .before .before .if1 .left)), c .before .before .before .before .before .before .before .before .before .before .before .before .before .before .before .before .before .before .before .before .before .before .before .before .before .before .before .before .before .before .before .before .before .pre .0), tt)
+descend-descend-requires t c κs =
+    let at-if1 = c .before .before .before .before .before .before .before .before .before .before .before .before
+    .before .before .before .before .before .before .before .before .before .before .before .before .before .before .before in
+    let at-start = at-if1 .before .before .before .before .before .before in
+    (omega (arith, part-shorter (at-start .args .way .now) (omega (arith, at-if1 .if1 .left)), at-start .pre .0), tt)
 
 descend-enter-requires : (t : ℕ) → descend-lts.Need-enter-requires (claims t) (descend-at t) descend.Post
 descend-enter-requires t c κs = search needs
 
 descend-same-length-13 : (t : ℕ) → descend-lts.Need-same-length-13 (claims t) (descend-at t) descend.Post
-descend-same-length-13 t c = c .before .before .before .before .enter .kept .0 ∙ (c .before .before .before .before .before .before .before .before .before .before .before .before .before .before .before .descend .kept .0 ∙ c .before .before .before .before .before .before .before .before .before .before .before .before .before .before .before .before .before .before .before .before .before .before .before .before .before .before .before .before .before .before .before .before .before .before .reach .kept .0)
+descend-same-length-13 t c =
+    let at-enter = c .before .before .before .before in
+    let at-descend = at-enter .before .before .before .before .before .before .before .before .before .before .before in
+    let at-reach = at-descend .before .before .before .before .before .before .before .before
+    .before .before .before .before .before .before .before .before .before .before .before in
+    at-enter .enter .kept .0 ∙ (at-descend .descend .kept .0 ∙ at-reach .reach .kept .0)
 
 descend-same-length-14 : (t : ℕ) → descend-lts.Need-same-length-14 (claims t) (descend-at t) descend.Post
-descend-same-length-14 t c = c .before .before .before .before .before .before .before .before .before .before .before .before .before .before .before .descend .kept .1 .0 ∙ c .before .before .before .before .before .before .before .before .before .before .before .before .before .before .before .before .before .before .before .before .before .before .before .before .before .before .before .before .before .before .before .before .before .before .reach .kept .1 .0
+descend-same-length-14 t c =
+    let at-descend = c .before .before .before .before .before .before
+    .before .before .before .before .before .before .before .before .before in
+    let at-reach = at-descend .before .before .before .before .before .before .before .before
+    .before .before .before .before .before .before .before .before .before .before .before in
+    at-descend .descend .kept .1 .0 ∙ at-reach .reach .kept .1 .0
 
 descend-same-length-15 : (t : ℕ) → descend-lts.Need-same-length-15 (claims t) (descend-at t) descend.Post
 descend-same-length-15 t c = search needs
@@ -166,9 +215,22 @@ descend-same-length-16 t c = search needs
 
 descend-returns-7 : (t : ℕ) → descend-lts.Need-returns-7 (claims t) (descend-at t) descend.Post
 descend-returns-7 t c =
-    descend-goes (c .before .before .before .before .before .before .before .before .before .before .before .before .before .before .before .before .before .before .before .before .before .before .before .before .before .before .before .before .before .before .before .before .before .before .before .before .before .before .before .before .before .before .before .before .before .before .before .before .before .args .o) _ _ _ _ _ _ _ _ _ _ _ _ (omega (arith, c .before .before .before .before .before .before .before .before .before .before .before .before .before .before .before .before .before .before .before .before .before .before .before .before .before .before .before .before .before .before .before .before .before .before .before .before .before .before .before .before .before .before .before .if1 .left)) (sym (c .before .before .before .before .before .before .before .before .before .before .before .before .before .before .before .before .before .before .before .before .before .before .before .before .before .before .before .before .before .before .before .before .before .before .before .before .before .before .inserts-here .ensures) ∙ c .before .before .before .before .before .before .before .before .before .before .before .before .before .before .before .before .before .before .before .before .before .before .before .before .before .before .before .before .before .before .before .before .before .before .before .before .before .if3 .left) refl refl refl
-    (omega (arith, c .before .before .before .before .before .before .before .before .before .before .before .before .before .before .before .before .before .before .before .before .before .before .before .before .before .before .before .before .before .before .before .before .before .before .before .before .before .before .before .before .before .before .before .if1 .left)) (omega (arith, c .before .before .before .before .before .before .before .before .before .before .before .before .before .before .before .before .before .before .before .before .before .before .before .before .before .before .before .before .before .before .before .before .before .before .before .before .before .before .before .before .before .before .if2 .left)) _ _ (c .before .before .before .before .before .before .before .before .before .before .before .before .before .before .before .before .before .before .before .before .before .before .before .before .before .before .before .before .before .before .before .before .before .before .reach .result) (c .before .before .before .before .before .before .before .before .before .before .before .before .before .before .before .before .before .before .before .before .before .before .before .before .before .before .before .before .before .before .before .before .before .before .reach .ensures) _ _ _ _ _ _ _ _ _ _ _ _ _ (not-false _ (c .before .before .before .before .before .before .before .before .before .before .before .before .before .before .before .before .before .before .before .before .before .before .before .before .before .before .before .before .if4 .left)) (c .before .before .before .before .before .before .before .before .before .before .before .before .before .before .before .before .before .before .before .before .before .before .before .before .if6 .left)
-    (part-is (c .before .before .before .before .before .before .before .before .before .before .before .before .before .before .before .before .before .before .before .before .before .before .before .before .before .before .before .before .before .before .before .before .before .before .before .before .before .before .before .before .before .before .before .before .before .before .before .before .before .args .way .now)) refl (c .before .before .before .before .before .before .before .before .before .before .before .before .before .before .before .before .before .before .before .before .before .past .ensures) (c .before .before .before .before .before .before .before .before .before .before .before .before .before .before .before .descend .ensures) (c .before .before .before .before .enter .ensures)
+    let at-enter = c .before .before .before .before in
+    let at-descend = at-enter .before .before .before .before .before .before .before .before .before .before .before in
+    let at-past = at-descend .before .before .before .before .before .before in
+    let at-if6 = at-past .before .before .before in
+    let at-if4 = at-if6 .before .before .before .before in
+    let at-reach = at-if4 .before .before .before .before .before .before in
+    let at-if3 = at-reach .before .before .before in
+    let at-inserts-here = at-if3 .before in
+    let at-if2 = at-inserts-here .before .before .before .before in
+    let at-if1 = at-if2 .before in
+    let at-start = at-if1 .before .before .before .before .before .before in
+    descend-goes (at-start .args .o) _ _ _ _ _ _ _ _ _ _ _ _ (omega (arith, at-if1 .if1 .left))
+    (sym (at-inserts-here .inserts-here .ensures) ∙ at-if3 .if3 .left) refl refl refl (omega (arith, at-if1 .if1 .left))
+    (omega (arith, at-if2 .if2 .left)) _ _ (at-reach .reach .result) (at-reach .reach .ensures) _ _ _ _ _ _ _ _ _ _ _ _ _
+    (not-false _ (at-if4 .if4 .left)) (at-if6 .if6 .left) (part-is (at-start .args .way .now)) refl (at-past .past .ensures)
+    (at-descend .descend .ensures) (at-enter .enter .ensures)
 
 pub +descend-spec : {M : Type 1} → statement M
 +descend-spec = close μ-descend λ t. descend-lts.spec (claims t)

@@ -16,8 +16,10 @@ same-length c = search needs
 
 returns : tie.Need-returns
 returns c =
-    let i = c .before .before .before .before in
-    enter-deleting (i .before .before .before .before .args .o) _ _ _ _ _ _ _ _ (sym (i .before .is-delete .ensures) ∙ i .if1 .taken) (c .before .before .flag-row .ensures)
+    let at-flag-row = c .before .before in
+    let i = at-flag-row .before .before in
+    enter-deleting (i .before .before .before .before .args .o) _ _ _ _ _ _ _ _
+    (sym (i .before .is-delete .ensures) ∙ i .if1 .taken) (at-flag-row .flag-row .ensures)
 
 mark-row-requires : tie.Need-mark-row-requires
 mark-row-requires c κs = search needs
@@ -36,7 +38,8 @@ returns-2 c =
     let f = c .before .before in
     let m = f .before .before .before .before .before .before in
     let i = m .before .before .before in
-    enter-marking (i .before .before .before .before .args .o) _ _ _ _ _ _ _ _ _ _ _ _ (sym (i .before .is-delete .ensures) ∙ i .if1 .left) (m .mark-row .ensures) (f .flag-row2 .ensures)
+    enter-marking (i .before .before .before .before .args .o) _ _ _ _ _ _ _ _ _ _ _ _
+    (sym (i .before .is-delete .ensures) ∙ i .if1 .left) (m .mark-row .ensures) (f .flag-row2 .ensures)
 
 pub enter-spec : {M : Type 1} → statement M
 enter-spec =

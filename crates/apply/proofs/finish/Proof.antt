@@ -22,7 +22,12 @@ same-length-3 c = search needs
 
 returns : tie.Need-returns
 returns c =
-    finish-clear (c .before .before .before .before .before .before .before .before .before .before .before .before .before .before .before .before .args .o) _ _ _ _ _ _ _ _ _ _ (sym (c .before .before .before .before .before .before .before .before .before .before .before .is-delete .ensures) ∙ c .before .before .before .before .before .before .before .before .before .before .if1 .taken) (c .before .before .before .before .before .before .clear-block .ensures)
+    let at-clear-block = c .before .before .before .before .before .before in
+    let at-if1 = at-clear-block .before .before .before .before in
+    let at-is-delete = at-if1 .before in
+    let at-start = at-is-delete .before .before .before .before .before in
+    finish-clear (at-start .args .o) _ _ _ _ _ _ _ _ _ _ (sym (at-is-delete .is-delete .ensures) ∙ at-if1 .if1 .taken)
+    (at-clear-block .clear-block .ensures)
 
 given-in-requires : tie.Need-given-in-requires
 given-in-requires c κs = search needs
@@ -41,7 +46,13 @@ same-length-6 c = search needs
 
 returns-2 : tie.Need-returns-2
 returns-2 c =
-    finish-give (c .before .before .before .before .before .before .before .before .before .before .before .before .before .before .before .before .before .before .args .o) _ _ _ _ _ _ _ _ _ _ _ _ (sym (c .before .before .before .before .before .before .before .before .before .before .before .before .before .is-delete .ensures) ∙ c .before .before .before .before .before .before .before .before .before .before .before .before .if1 .left) (c .before .before .before .before .before .before .before .given-in .ensures) (c .before .before .before .before .before .before .give .ensures)
+    let at-give = c .before .before .before .before .before .before in
+    let at-given-in = at-give .before in
+    let at-if1 = at-given-in .before .before .before .before .before in
+    let at-is-delete = at-if1 .before in
+    let at-start = at-is-delete .before .before .before .before .before in
+    finish-give (at-start .args .o) _ _ _ _ _ _ _ _ _ _ _ _ (sym (at-is-delete .is-delete .ensures) ∙ at-if1 .if1 .left)
+    (at-given-in .given-in .ensures) (at-give .give .ensures)
 
 pub finish-spec : {M : Type 1} → statement M
 finish-spec =

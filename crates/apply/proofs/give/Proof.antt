@@ -36,8 +36,16 @@ same-length-3 c = search needs
 
 returns : tie.Need-returns
 returns c =
-    give-plain _ _ _ _ _ _ _ _ _ _ _ _ _ _ _ _ _ _ _ _ _ _ (omega (arith, c .before .before .before .before .before .before .before .before .before .before .before .before .before .before .before .before .before .before .before .before .before .before .before .before .branch-of .ensures, c .before .before .before .before .before .before .before .before .before .before .before .before .before .before .before .before .before .before .before .before .before .before .before .if1 .taken)) (c .before .before .before .before .before .before .before .before .kind-of .ensures) (c .before .before .before .before .before .before .before .parts-of .ensures)
-    (c .before .before .before .before .before .before .before .before .before .before .before .before .before .before .before .before .before .before .before .before .mark-row .ensures) (c .before .before .before .before .before .before .before .before .before .before .before .before .before .drop-values .ensures) (c .before .before .before .before .add-value .ensures)
+    let at-add-value = c .before .before .before .before in
+    let at-parts-of = at-add-value .before .before .before in
+    let at-kind-of = at-parts-of .before in
+    let at-drop-values = at-kind-of .before .before .before .before .before in
+    let at-mark-row = at-drop-values .before .before .before .before .before .before .before in
+    let at-if1 = at-mark-row .before .before .before in
+    let at-branch-of = at-if1 .before in
+    give-plain _ _ _ _ _ _ _ _ _ _ _ _ _ _ _ _ _ _ _ _ _ _ (omega (arith, at-branch-of .branch-of .ensures, at-if1 .if1 .taken))
+    (at-kind-of .kind-of .ensures) (at-parts-of .parts-of .ensures) (at-mark-row .mark-row .ensures)
+    (at-drop-values .drop-values .ensures) (at-add-value .add-value .ensures)
 
 clear-block-requires : tie.Need-clear-block-requires
 clear-block-requires c κs = search needs
@@ -59,8 +67,14 @@ same-length-6 c = search needs
 
 returns-2 : tie.Need-returns-2
 returns-2 c =
-    give-branch _ _ _ _ _ _ _ _ _ _ _ _ _ _ _ _ _ _ _ _ (c .before .before .before .before .before .before .before .before .before .before .before .before .before .before .before .before .before .clear-block .ensures) (c .before .before .before .before .before .before .before .before .mark-row2 .ensures) (c .before .before .flag-row .ensures)
-    (λ e. omega (arith, e, c .before .before .before .before .before .before .before .before .before .before .before .before .before .before .before .before .before .before .before .before .before .before .branch-of .ensures, c .before .before .before .before .before .before .before .before .before .before .before .before .before .before .before .before .before .before .before .before .before .if1 .left)) (ap (λ n. eqb n 2) (c .before .before .before .before .before .before .before .before .before .before .before .before .before .before .before .before .before .before .before .before .before .before .branch-of .ensures))
+    let at-flag-row = c .before .before in
+    let at-mark-row2 = at-flag-row .before .before .before .before .before .before in
+    let at-clear-block = at-mark-row2 .before .before .before .before .before .before .before .before .before in
+    let at-if1 = at-clear-block .before .before .before .before in
+    let at-branch-of = at-if1 .before in
+    give-branch _ _ _ _ _ _ _ _ _ _ _ _ _ _ _ _ _ _ _ _ (at-clear-block .clear-block .ensures) (at-mark-row2 .mark-row2 .ensures)
+    (at-flag-row .flag-row .ensures) (λ e. omega (arith, e, at-branch-of .branch-of .ensures, at-if1 .if1 .left))
+    (ap (λ n. eqb n 2) (at-branch-of .branch-of .ensures))
 
 pub give-spec : {M : Type 1} → statement M
 give-spec =

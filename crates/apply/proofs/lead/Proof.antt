@@ -18,8 +18,9 @@ same-length-2 c = search needs
 
 returns : tie.Need-returns
 returns c =
+    let at-find = c .before .before .before .before in
     let k = c .before .known in
-    let f = c .before .before .before .before .find in
+    let f = at-find .find in
     lead-row _ _ _ _ _ _ (f .ensures) _ _ (k .ensures) (c .if1 .taken)
 
 open-row-requires : tie.Need-open-row-requires
@@ -36,7 +37,8 @@ returns-2 c =
     let b = c .before .before .before .before in
     let i = b .before .before .before in
     let k = i .before .before in
-    lead-new _ _ _ _ _ _ (k .before .before .before .find .ensures) _ _ _ _ _ (k .known .ensures) (i .before .if1 .left) (i .if2 .taken)
+    lead-new _ _ _ _ _ _ (k .before .before .before .find .ensures) _ _ _ _ _ (k .known .ensures) (i .before .if1 .left)
+    (i .if2 .taken)
     (b .open-row .ensures)
 
 same-length-5 : tie.Need-same-length-5

@@ -45,10 +45,16 @@ returns-3 : tie.Need-returns-3
 returns-3 c = search needs
 
 returns-4 : tie.Need-returns-4
-returns-4 c = c .one-word .ensures ∙ sym (ap (λ g. partsOf g (c .before .before .before .before .args .words)) (c .before .before .g .given .1))
+returns-4 c =
+    let at-g = c .before .before in
+    let at-start = at-g .before .before in
+    c .one-word .ensures ∙ sym (ap (λ g. partsOf g (at-start .args .words)) (at-g .g .given .1))
 
 returns-5 : tie.Need-returns-5
-returns-5 c = c .one-word2 .ensures ∙ sym (ap (λ g. partsOf g (c .before .before .before .before .args .words)) (c .before .before .g2 .given .1))
+returns-5 c =
+    let at-g2 = c .before .before in
+    let at-start = at-g2 .before .before in
+    c .one-word2 .ensures ∙ sym (ap (λ g. partsOf g (at-start .args .words)) (at-g2 .g2 .given .1))
 
 returns-6 : tie.Need-returns-6
 returns-6 c = search needs

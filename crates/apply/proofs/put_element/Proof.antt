@@ -16,7 +16,10 @@ same-length-2 c = search needs
 
 returns : tie.Need-returns
 returns c =
-    insert-stays (c .before .before .before .before .before .before .before .before .before .before .before .args .o) _ _ _ _ _ _ _ _ _ (c .before .before .find-seat .result) (c .before .before .find-seat .ensures) (not-true _ (c .if1 .taken))
+    let at-find-seat = c .before .before in
+    let at-start = at-find-seat .before .before .before .before .before .before .before .before .before in
+    insert-stays (at-start .args .o) _ _ _ _ _ _ _ _ _ (at-find-seat .find-seat .result) (at-find-seat .find-seat .ensures)
+    (not-true _ (c .if1 .taken))
 
 open-row-requires : tie.Need-open-row-requires
 open-row-requires c κs = search needs
@@ -41,7 +44,15 @@ same-length-6 c = search needs
 
 returns-2 : tie.Need-returns-2
 returns-2 c =
-    insert-new (c .before .before .before .before .before .before .before .before .before .before .before .before .before .before .before .before .before .before .before .before .before .before .before .before .before .before .before .before .before .before .args .o) _ _ _ _ _ _ _ _ _ (c .before .before .before .before .before .before .before .before .before .before .before .before .before .before .before .before .before .before .before .before .before .find-seat .result) (c .before .before .before .before .before .before .before .before .before .before .before .before .before .before .before .before .before .before .before .before .before .find-seat .ensures) _ _ _ _ _ _ _ _ _ (not-false _ (c .before .before .before .before .before .before .before .before .before .before .before .before .before .before .before .before .before .before .before .if1 .left)) (c .before .before .before .before .before .before .before .before .before .before .before .before .before .before .before .open-row .ensures) (c .before .before .before .before .before .before .before .given-in .ensures) (c .before .before .before .before .before .before .give .ensures)
+    let at-give = c .before .before .before .before .before .before in
+    let at-given-in = at-give .before in
+    let at-open-row = at-given-in .before .before .before .before .before .before .before .before in
+    let at-if1 = at-open-row .before .before .before .before in
+    let at-find-seat = at-if1 .before .before in
+    let at-start = at-find-seat .before .before .before .before .before .before .before .before .before in
+    insert-new (at-start .args .o) _ _ _ _ _ _ _ _ _ (at-find-seat .find-seat .result) (at-find-seat .find-seat .ensures) _ _ _ _ _
+    _ _ _ _ (not-false _ (at-if1 .if1 .left)) (at-open-row .open-row .ensures) (at-given-in .given-in .ensures)
+    (at-give .give .ensures)
 
 pub put-element-spec : {M : Type 1} → statement M
 put-element-spec =

@@ -21,7 +21,11 @@ same-length-2 c = search needs
 
 returns : tie.Need-returns
 returns c =
-    lead-by _ _ _ _ _ _ _ _ _ _ (c .before .before .before .before .lead .result) (c .before .before .before .before .before .before .before .before .want-of .ensures) (c .before .before .before .before .before .before .before .may-make .ensures) (c .before .before .before .before .lead .ensures)
+    let at-lead = c .before .before .before .before in
+    let at-may-make = at-lead .before .before .before in
+    let at-want-of = at-may-make .before in
+    lead-by _ _ _ _ _ _ _ _ _ _ (at-lead .lead .result) (at-want-of .want-of .ensures) (at-may-make .may-make .ensures)
+    (at-lead .lead .ensures)
 
 pub reach-spec : {M : Type 1} → statement M
 reach-spec =

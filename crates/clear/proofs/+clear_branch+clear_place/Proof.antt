@@ -1,4 +1,5 @@
--- `clear::clear_place` and `clear::clear_branch`, which call each other, meet their contracts. The measure is twice the levels that are left,
+-- `clear::clear_place` and `clear::clear_branch`, which call each other, meet their contracts. The measure is twice the levels that are
+-- left,
 -- and one more for a place. The loop's invariant: the rows gone over are cleared (proofs/Branch). Assumes nothing.
 use Prim.Native.Nat.{ℕ, _+_, _-_, _<_}
 use mathlib.Core.Path.{_≡_, refl, _∙_}
@@ -80,25 +81,33 @@ clear-branch-slice-read-if3 t c = omega arith
 
 clear-branch-same-length : (t : ℕ) → clear-branch-lts.Need-same-length
     (clear-place-below t, clear-place.Post) (clear-branch-at t) clear-branch.Post clear-branch-Inv-loop clear-branch-μ-loop
-clear-branch-same-length t c = c .before .before .before .before .loop .inv .0
+clear-branch-same-length t c =
+    let at-loop = c .before .before .before .before in
+    at-loop .loop .inv .0
 
 clear-branch-same-length-2 : (t : ℕ) → clear-branch-lts.Need-same-length-2
     (clear-place-below t, clear-place.Post) (clear-branch-at t) clear-branch.Post clear-branch-Inv-loop clear-branch-μ-loop
-clear-branch-same-length-2 t c = c .before .before .before .before .loop .inv .1
+clear-branch-same-length-2 t c =
+    let at-loop = c .before .before .before .before in
+    at-loop .loop .inv .1
 
 clear-branch-same-length-3 : (t : ℕ) → clear-branch-lts.Need-same-length-3
     (clear-place-below t, clear-place.Post) (clear-branch-at t) clear-branch.Post clear-branch-Inv-loop clear-branch-μ-loop
-clear-branch-same-length-3 t c = c .before .before .before .before .loop .inv .2
+clear-branch-same-length-3 t c =
+    let at-loop = c .before .before .before .before in
+    at-loop .loop .inv .2
 
 clear-branch-returns-2 : (t : ℕ) → clear-branch-lts.Need-returns-2
     (clear-place-below t, clear-place.Post) (clear-branch-at t) clear-branch.Post clear-branch-Inv-loop clear-branch-μ-loop
 clear-branch-returns-2 t c =
-    let a = c .before .before .before .before .before .before .before .before .before in
+    let at-if2 = c .before .before in
+    let at-loop = at-if2 .before .before in
+    let a = at-loop .before .before .before .before .before in
     let d = a .args .d .at in
     let x = passing (a .args .heads .now) (a .args .marks .now) (a .args .values .now) (a .args .p) in
-    let l = c .before .before .before .before .loop in
+    let l = at-loop .loop in
     let y = passing (l .heads) (l .marks) (l .values) (l .q) in
-    walks-stop d (a .args .rows) (a .args .n) (a .args .left) x y (l .inv .3) (c .before .before .if2 .taken) (c .if3 .taken)
+    walks-stop d (a .args .rows) (a .args .n) (a .args .left) x y (l .inv .3) (at-if2 .if2 .taken) (c .if3 .taken)
 
 clear-branch-sub-clear-place : (t : ℕ) → clear-branch-lts.Need-sub-clear-place
     (clear-place-below t, clear-place.Post) (clear-branch-at t) clear-branch.Post clear-branch-Inv-loop clear-branch-μ-loop
@@ -107,35 +116,45 @@ clear-branch-sub-clear-place t c = omega arith
 clear-branch-clear-place-requires : (t : ℕ) → clear-branch-lts.Need-clear-place-requires
     (clear-place-below t, clear-place.Post) (clear-branch-at t) clear-branch.Post clear-branch-Inv-loop clear-branch-μ-loop
 clear-branch-clear-place-requires t c κs =
-    let a = c .before .before .before .before .before .before .before .before .before .before .before .before in
-    let l = c .before .before .before .before .before .before .before .loop in
-    let z = c .before .before .before .before .before .before .before .before .if1 .left in
-    (omega (arith, a .pre .0), (l .inv .3 .starts, c .before .before .before .before .before .if2 .taken))
+    let at-if2 = c .before .before .before .before .before in
+    let at-loop = at-if2 .before .before in
+    let at-if1 = at-loop .before in
+    let a = at-if1 .before .before .before .before in
+    let l = at-loop .loop in
+    let z = at-if1 .if1 .left in
+    (omega (arith, a .pre .0), (l .inv .3 .starts, at-if2 .if2 .taken))
 
 clear-branch-loop-less : (t : ℕ) → clear-branch-lts.Need-loop-less
     (clear-place-below t, clear-place.Post) (clear-branch-at t) clear-branch.Post clear-branch-Inv-loop clear-branch-μ-loop
 clear-branch-loop-less t c =
-    let l = c .before .before .before .before .before .before .before .before .before .before .before .before .before .before .loop in
-    let g = c .before .before .before .before .before .before .clear-place .ensures .low in
-    let h = c .before .before .before .before .before .before .clear-place .ensures .high in
+    let at-clear-place = c .before .before .before .before .before .before in
+    let at-loop = at-clear-place .before .before .before .before .before .before .before .before in
+    let l = at-loop .loop in
+    let g = at-clear-place .clear-place .ensures .low in
+    let h = at-clear-place .clear-place .ensures .high in
     omega arith
 
 clear-branch-loop-again : (t : ℕ) → clear-branch-lts.Need-loop-again
     (clear-place-below t, clear-place.Post) (clear-branch-at t) clear-branch.Post clear-branch-Inv-loop clear-branch-μ-loop
 clear-branch-loop-again t c =
-    let a = c .before .before .before .before .before .before .before .before .before .before .before .before .before .before .before .before .before .before .before in
+    let at-clear-place = c .before .before .before .before .before .before in
+    let at-if3 = at-clear-place .before .before .before .before in
+    let at-if2 = at-if3 .before .before in
+    let at-loop = at-if2 .before .before in
+    let a = at-loop .before .before .before .before .before in
     let d = a .args .d .at in
     let x = passing (a .args .heads .now) (a .args .marks .now) (a .args .values .now) (a .args .p) in
-    let l = c .before .before .before .before .before .before .before .before .before .before .before .before .before .before .loop in
+    let l = at-loop .loop in
     let y = passing (l .heads) (l .marks) (l .values) (l .q) in
-    let g = c .before .before .before .before .before .before .clear-place in
+    let g = at-clear-place .clear-place in
     let z = passing (g .last .0) (g .last .1 .0) (g .last .1 .1 .0) (g .result) in
     let r = l .inv .3 .starts .rows-in in
     let k = g .kept .0 in (
       g .kept .0 ∙ l .inv .0,
       g .kept .1 .0 ∙ l .inv .1,
       g .kept .1 .1 .0 ∙ l .inv .2,
-      walks-on d (a .args .rows) (a .args .n) (a .args .left) x y z (l .inv .3) (c .before .before .before .before .before .before .before .before .before .before .before .before .if2 .taken) (c .before .before .before .before .before .before .before .before .before .before .if3 .left) (g .ensures) (omega arith),
+      walks-on d (a .args .rows) (a .args .n) (a .args .left) x y z (l .inv .3) (at-if2 .if2 .taken) (at-if3 .if3 .left)
+          (g .ensures) (omega arith),
     )
 
 clear-branch-same-length-4 : (t : ℕ) → clear-branch-lts.Need-same-length-4
@@ -153,10 +172,11 @@ clear-branch-same-length-6 t c = c .before .before .loop .inv .2
 clear-branch-returns-3 : (t : ℕ) → clear-branch-lts.Need-returns-3
     (clear-place-below t, clear-place.Post) (clear-branch-at t) clear-branch.Post clear-branch-Inv-loop clear-branch-μ-loop
 clear-branch-returns-3 t c =
-    let a = c .before .before .before .before .before .before .before in
+    let at-loop = c .before .before in
+    let a = at-loop .before .before .before .before .before in
     let d = a .args .d .at in
     let x = passing (a .args .heads .now) (a .args .marks .now) (a .args .values .now) (a .args .p) in
-    let l = c .before .before .loop in
+    let l = at-loop .loop in
     let y = passing (l .heads) (l .marks) (l .values) (l .q) in
     walks-end d (a .args .rows) (a .args .n) (a .args .left) x y (l .inv .3) (c .if2 .left)
 
@@ -178,32 +198,47 @@ clear-place-clear-row-requires t c κs =
 clear-place-clear-branch-requires : (t : ℕ) → clear-place-lts.Need-clear-branch-requires
     (clear-row-reads.Asked, clear-row-reads.Learnt, clear-branch-below t, clear-branch.Post) (clear-place-at t) clear-place.Post
 clear-place-clear-branch-requires t c κs =
-    let a = c .before .before .before .before .before .before .before .before .before .before .before .before .before .before .before .before .before in
-    let r = c .before .before .before .before .before .before .before .before .before .clear-row in
+    let at-clear-row = c .before .before .before .before .before .before .before .before .before in
+    let a = at-clear-row .before .before .before .before .before .before .before .before in
+    let r = at-clear-row .clear-row in
     let x = passing (a .args .heads .now) (a .args .marks .now) (a .args .values .now) (a .args .p) in
     let y = passing (r .last .0) (r .last .1 .0) (r .last .1 .1 .0) (r .result) in
     let k = r .kept .0 in
-    let b = a .pre .1 .0 .rows-in in
-    (omega (arith, a .pre .0), row-starts (a .args .d .at) (a .args .rows) _ (a .args .left) x y y refl (a .pre .1 .1) (r .ensures) (omega arith))
+    let b = a .pre .1 .0 .rows-in in (
+      omega (arith, a .pre .0),
+      row-starts (a .args .d .at) (a .args .rows) _ (a .args .left) x y y refl (a .pre .1 .1) (r .ensures)
+          (omega arith),
+    )
 
 clear-place-same-length : (t : ℕ) → clear-place-lts.Need-same-length
     (clear-row-reads.Asked, clear-row-reads.Learnt, clear-branch-below t, clear-branch.Post) (clear-place-at t) clear-place.Post
-clear-place-same-length t c = c .before .before .before .before .before .before .clear-branch .kept .0 ∙ c .before .before .before .before .before .before .before .before .before .before .before .before .before .before .before .before .clear-row .kept .0
+clear-place-same-length t c =
+    let at-clear-branch = c .before .before .before .before .before .before in
+    let at-clear-row = at-clear-branch .before .before .before .before .before .before .before .before .before .before in
+    at-clear-branch .clear-branch .kept .0 ∙ at-clear-row .clear-row .kept .0
 
 clear-place-same-length-2 : (t : ℕ) → clear-place-lts.Need-same-length-2
     (clear-row-reads.Asked, clear-row-reads.Learnt, clear-branch-below t, clear-branch.Post) (clear-place-at t) clear-place.Post
-clear-place-same-length-2 t c = c .before .before .before .before .before .before .clear-branch .kept .1 .0 ∙ c .before .before .before .before .before .before .before .before .before .before .before .before .before .before .before .before .clear-row .kept .1 .0
+clear-place-same-length-2 t c =
+    let at-clear-branch = c .before .before .before .before .before .before in
+    let at-clear-row = at-clear-branch .before .before .before .before .before .before .before .before .before .before in
+    at-clear-branch .clear-branch .kept .1 .0 ∙ at-clear-row .clear-row .kept .1 .0
 
 clear-place-same-length-3 : (t : ℕ) → clear-place-lts.Need-same-length-3
     (clear-row-reads.Asked, clear-row-reads.Learnt, clear-branch-below t, clear-branch.Post) (clear-place-at t) clear-place.Post
-clear-place-same-length-3 t c = c .before .before .before .before .before .before .clear-branch .kept .1 .1 .0 ∙ c .before .before .before .before .before .before .before .before .before .before .before .before .before .before .before .before .clear-row .kept .1 .1 .0
+clear-place-same-length-3 t c =
+    let at-clear-branch = c .before .before .before .before .before .before in
+    let at-clear-row = at-clear-branch .before .before .before .before .before .before .before .before .before .before in
+    at-clear-branch .clear-branch .kept .1 .1 .0 ∙ at-clear-row .clear-row .kept .1 .1 .0
 
 clear-place-returns : (t : ℕ) → clear-place-lts.Need-returns
     (clear-row-reads.Asked, clear-row-reads.Learnt, clear-branch-below t, clear-branch.Post) (clear-place-at t) clear-place.Post
 clear-place-returns t c =
-    let a = c .before .before .before .before .before .before .before .before .before .before .before .before .before .before .before .before .before .before .before .before .before .before .before .before in
-    let r = c .before .before .before .before .before .before .before .before .before .before .before .before .before .before .before .before .clear-row in
-    let b = c .before .before .before .before .before .before .clear-branch in
+    let at-clear-branch = c .before .before .before .before .before .before in
+    let at-clear-row = at-clear-branch .before .before .before .before .before .before .before .before .before .before in
+    let a = at-clear-row .before .before .before .before .before .before .before .before in
+    let r = at-clear-row .clear-row in
+    let b = at-clear-branch .clear-branch in
     let x = passing (a .args .heads .now) (a .args .marks .now) (a .args .values .now) (a .args .p) in
     let y = passing (r .last .0) (r .last .1 .0) (r .last .1 .1 .0) (r .result) in
     let z = passing (b .last .0) (b .last .1 .0) (b .last .1 .1 .0) (b .result) in

@@ -83,10 +83,14 @@ same-length-3 c = search needs
 
 returns-3 : tie.Need-returns-3
 returns-3 c =
-    let a = c .before .before .before .before .before .before .before .before .before .before .before .before .before .before .before .before in
+    let at-keep-values = c .before .before .before .before in
+    let at-keep-marks = at-keep-values .before .before .before .before in
+    let a = at-keep-marks .before .before .before .before .before .before .before .before in
     row-done (a .args .d .at) (a .args .heads .now) (a .args .marks .now) (a .args .values .now) (a .args .p) (a .pre .0)
-    _ _ refl refl (c .before .before .before .before .before .before .before .before .keep-marks .result) (c .before .before .before .before .keep-values .result) (c .before .before .before .before .before .before .before .before .keep-marks .last .0) (c .before .before .before .before .keep-values .last .0) (omega arith) (omega arith)
-    (c .before .before .before .before .before .before .before .before .keep-marks .ensures) (c .before .before .before .before .keep-values .ensures) (c .before .before .before .before .before .before .before .before .keep-marks .kept .0) (c .before .before .before .before .keep-values .kept .0)
+    _ _ refl refl (at-keep-marks .keep-marks .result) (at-keep-values .keep-values .result) (at-keep-marks .keep-marks .last .0)
+    (at-keep-values .keep-values .last .0) (omega arith) (omega arith)
+    (at-keep-marks .keep-marks .ensures) (at-keep-values .keep-values .ensures) (at-keep-marks .keep-marks .kept .0)
+    (at-keep-values .keep-values .kept .0)
 
 pub clear-row-spec : {M : Type 1} → statement M
 clear-row-spec =

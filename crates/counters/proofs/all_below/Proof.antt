@@ -29,9 +29,10 @@ wide-requires c κs = search needs
 
 returns : tie.Need-returns Inv-loop μ-loop
 returns c =
-    let a = c .before .before .before .before .before in
+    let at-loop = c .before .before .before .before in
+    let a = at-loop .before in
     let d = eight (a .args .t2 .at) (a .good .1 .0 .1 .1 .0 .1 .0 .1) in
-    sym (c .before .before .before .before .loop .inv .1 ∙ allBelow-stops (a .args .t2 .at) (c .before .before .before .before .loop .k) (omega arith) (a .args .c) (omega arith))
+    sym (at-loop .loop .inv .1 ∙ allBelow-stops (a .args .t2 .at) (at-loop .loop .k) (omega arith) (a .args .c) (omega arith))
 
 add-k : tie.Need-add-k Inv-loop μ-loop
 add-k c = omega arith
@@ -41,9 +42,13 @@ loop-less c = omega arith
 
 loop-again : tie.Need-loop-again Inv-loop μ-loop
 loop-again c =
-    let a = c .before .before .before .before .before in
-    let d = eight (a .args .t2 .at) (a .good .1 .0 .1 .1 .0 .1 .0 .1) in
-    (omega arith, c .before .before .before .before .loop .inv .1 ∙ allBelow-goes (a .args .t2 .at) (c .before .before .before .before .loop .k) (omega arith) (a .args .c) (omega arith))
+    let at-loop = c .before .before .before .before in
+    let a = at-loop .before in
+    let d = eight (a .args .t2 .at) (a .good .1 .0 .1 .1 .0 .1 .0 .1) in (
+      omega arith,
+      at-loop .loop .inv .1 ∙ allBelow-goes (a .args .t2 .at) (at-loop .loop .k) (omega arith) (a .args .c)
+          (omega arith),
+    )
 
 returns-2 : tie.Need-returns-2 Inv-loop μ-loop
 returns-2 c =

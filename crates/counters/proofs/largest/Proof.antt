@@ -36,9 +36,10 @@ loop-less c = omega arith
 
 loop-again : tie.Need-loop-again Inv-loop μ-loop
 loop-again c =
-    let a = c .before .before .before .before .before in
+    let at-loop = c .before .before .before .before in
+    let a = at-loop .before in
     let s = eight (a .args .t1 .at) (a .good .0 .1 .1 .0 .1 .0 .1) in
-    let g = largest-goes (a .args .t1 .at) (c .before .before .before .before .loop .k) (omega arith) in
+    let g = largest-goes (a .args .t1 .at) (at-loop .loop .k) (omega arith) in
     (omega arith, ⊎-elim (λ w. omega arith) (λ w. omega arith) (c .if1 .came))
 
 returns : tie.Need-returns Inv-loop μ-loop

@@ -15,7 +15,8 @@ entry-requires-2 c κs = search needs
 returns : tie.Need-returns
 unfolding ready
 returns c =
-    let a = c .before .before .before .args in
+    let at-start = c .before .before .before in
+    let a = at-start .args in
     rw (ne-eqb (entry (a .d .at) (entryOf (a .id))) (entry (a .s .at) (entryOf (a .id))) (λ e. c .if1 .taken (omega arith)))
 
 at-most-requires : tie.Need-at-most-requires
@@ -24,7 +25,8 @@ at-most-requires c κs = search needs
 returns-2 : tie.Need-returns-2
 unfolding ready
 returns-2 c =
-    let a = c .before .before .before .before .args in
+    let at-start = c .before .before .before .before in
+    let a = at-start .args in
     rw (eq-eqb (entry (a .d .at) (entryOf (a .id))) (entry (a .s .at) (entryOf (a .id))) (omega arith)) (c .at-most .ensures)
 
 pub ready-spec : {M : Type 1} → statement M

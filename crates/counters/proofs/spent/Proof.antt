@@ -26,9 +26,10 @@ element-copy-out-if1 c = search needs
 
 returns : tie.Need-returns Inv-loop μ-loop
 returns c =
-    let a = c .before .before .before .before in
+    let at-loop = c .before .before .before in
+    let a = at-loop .before in
     let s = eight (a .args .t1 .at) (a .good .0 .1 .1 .0 .1 .0 .1) in
-    sym (c .before .before .before .loop .inv .1 ∙ spent-stops (a .args .t1 .at) (c .before .before .before .loop .k) (omega arith) (c .if1 .taken))
+    sym (at-loop .loop .inv .1 ∙ spent-stops (a .args .t1 .at) (at-loop .loop .k) (omega arith) (c .if1 .taken))
 
 add-k : tie.Need-add-k Inv-loop μ-loop
 add-k c = omega arith
@@ -38,9 +39,10 @@ loop-less c = omega arith
 
 loop-again : tie.Need-loop-again Inv-loop μ-loop
 loop-again c =
-    let a = c .before .before .before .before in
+    let at-loop = c .before .before .before in
+    let a = at-loop .before in
     let s = eight (a .args .t1 .at) (a .good .0 .1 .1 .0 .1 .0 .1) in
-    (omega arith, c .before .before .before .loop .inv .1 ∙ spent-goes (a .args .t1 .at) (c .before .before .before .loop .k) (omega arith) (c .if1 .left))
+    (omega arith, at-loop .loop .inv .1 ∙ spent-goes (a .args .t1 .at) (at-loop .loop .k) (omega arith) (c .if1 .left))
 
 returns-2 : tie.Need-returns-2 Inv-loop μ-loop
 returns-2 c =

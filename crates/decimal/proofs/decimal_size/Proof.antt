@@ -25,8 +25,10 @@ element-copy-out-if1 c = search needs
 
 returns : tie.Need-returns Inv-loop μ-loop
 returns c =
-    let p = power _ (c .before .before .before .loop .n) (c .before .before .before .before .pre) (omega arith) in
-    (size-is _ _ (c .before .before .before .loop .inv .0) (omega arith) (c .before .before .before .loop .inv .2), omega arith, omega arith)
+    let at-loop = c .before .before .before in
+    let at-pre = at-loop .before in
+    let p = power _ (at-loop .loop .n) (at-pre .pre) (omega arith) in
+    (size-is _ _ (at-loop .loop .inv .0) (omega arith) (at-loop .loop .inv .2), omega arith, omega arith)
 
 add-n : tie.Need-add-n Inv-loop μ-loop
 add-n c = search needs
@@ -36,13 +38,20 @@ loop-less c = search needs
 
 loop-again : tie.Need-loop-again Inv-loop μ-loop
 loop-again c =
-    let p = power _ (c .before .before .before .loop .n) (c .before .before .before .before .pre) (omega arith) in
+    let at-loop = c .before .before .before in
+    let at-pre = at-loop .before in
+    let p = power _ (at-loop .loop .n) (at-pre .pre) (omega arith) in
     (omega arith, omega arith, passed _ _ (omega arith))
 
 returns-2 : tie.Need-returns-2 Inv-loop μ-loop
 returns-2 c =
-    let e : 20 ≡ c .before .loop .n = omega arith in
-    (size-is _ _ (c .before .loop .inv .0) (subst (λ (i : Prim.Native.Nat.ℕ). c .before .before .args .v < 10 ^ i) e (omega arith)) (c .before .loop .inv .2), omega arith, omega arith)
+    let at-start = c .before .before in
+    let e : 20 ≡ c .before .loop .n = omega arith in (
+      size-is _ _ (c .before .loop .inv .0) (subst (λ (i : Prim.Native.Nat.ℕ). at-start .args .v < 10 ^ i) e (omega arith))
+          (c .before .loop .inv .2),
+      omega arith,
+      omega arith,
+    )
 
 pub decimal-size-spec : {M : Type 1} → statement M
 decimal-size-spec =

@@ -1,4 +1,5 @@
--- `decimal::put_decimal` meets its contract. The loop's invariant, `Writing`: the digits from i on are written, and x is what stands before them.
+-- `decimal::put_decimal` meets its contract. The loop's invariant, `Writing`: the digits from i on are written, and x is what stands
+-- before them.
 -- Assumes nothing.
 use native.Mathlib.Omega.{arith}
 use Rattle.decimal.proofs.Runs.{Writing, unwritten, one-more, written}

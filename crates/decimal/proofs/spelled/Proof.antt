@@ -15,7 +15,9 @@ returns-2 : tie.Need-returns-2
 returns-2 c = λ e. omega (arith, width-some (c .before .before .args .v))
 
 returns-3 : tie.Need-returns-3
-returns-3 c = λ e. omega (arith, width-most (c .before .before .before .args .v) (omega arith))
+returns-3 c =
+    let at-start = c .before .before .before in
+    λ e. omega (arith, width-most (at-start .args .v) (omega arith))
 
 sub-if4 : tie.Need-sub-if4
 sub-if4 c = search needs
@@ -27,10 +29,23 @@ element-copy-out-if4 : tie.Need-element-copy-out-if4
 element-copy-out-if4 c = search needs
 
 returns-4 : tie.Need-returns-4
-returns-4 c = λ e. omega (arith, width-low (c .before .before .before .before .before .args .n) (c .before .before .before .before .before .args .v) e (omega arith), power _ (c .before .before .before .before .before .args .n - 1) (c .before .before .before .before .before .pre .0) (omega arith))
+returns-4 c =
+    let at-start = c .before .before .before .before .before in
+    λ e. omega (
+      arith,
+      width-low (at-start .args .n) (at-start .args .v) e (omega arith),
+      power _ (at-start .args .n - 1)
+          (at-start .pre .0) (omega arith),
+    )
 
 returns-5 : tie.Need-returns-5
-returns-5 c = (refl, refl, width-is _ _ (omega arith) (c .before .before .before .before .before .pre .1) (λ h. omega (arith, power _ (c .before .before .before .before .before .args .n - 1) (c .before .before .before .before .before .pre .0) (omega arith))))
+returns-5 c =
+    let at-pre = c .before .before .before .before .before in (
+      refl,
+      refl,
+      width-is _ _ (omega arith) (at-pre .pre .1)
+          (λ h. omega (arith, power _ (at-pre .args .n - 1) (at-pre .pre .0) (omega arith))),
+    )
 
 pub spelled-spec : {M : Type 1} → statement M
 spelled-spec =

@@ -18,13 +18,27 @@ enum-told : tie.Need-enum-told
 enum-told c = search needs
 
 returns : tie.Need-returns
-returns c = none-between _ _ _ _ (subst (ReadsNumber (numbers 0 (c .before .before .before .before .args .max)) (now (c .before .before .before .before .args .s)) (c .before .before .before .before .args .a)) (c .enum-told .given .1) (c .before .before .take-decimal .ensures))
+returns c =
+    let at-take-decimal = c .before .before in
+    let at-start = at-take-decimal .before .before in
+    none-between _ _ _ _ (subst (ReadsNumber (numbers 0 (at-start .args .max)) (now (at-start .args .s)) (at-start .args .a))
+    (c .enum-told .given .1) (at-take-decimal .take-decimal .ensures))
 
 returns-2 : tie.Need-returns-2
-returns-2 c = too-small _ _ _ _ _ _ (subst (ReadsNumber (numbers 0 (c .before .before .before .before .before .before .args .max)) (now (c .before .before .before .before .before .before .args .s)) (c .before .before .before .before .before .before .args .a)) (c .before .before .value .given .1) (c .before .before .before .before .take-decimal .ensures)) (c .if1 .taken)
+returns-2 c =
+    let at-value = c .before .before in
+    let at-take-decimal = at-value .before .before in
+    let at-start = at-take-decimal .before .before in
+    too-small _ _ _ _ _ _ (subst (ReadsNumber (numbers 0 (at-start .args .max)) (now (at-start .args .s)) (at-start .args .a))
+    (at-value .value .given .1) (at-take-decimal .take-decimal .ensures)) (c .if1 .taken)
 
 returns-3 : tie.Need-returns-3
-returns-3 c = between _ _ _ _ _ _ (subst (ReadsNumber (numbers 0 (c .before .before .before .before .before .before .args .max)) (now (c .before .before .before .before .before .before .args .s)) (c .before .before .before .before .before .before .args .a)) (c .before .before .value .given .1) (c .before .before .before .before .take-decimal .ensures)) (c .if1 .left)
+returns-3 c =
+    let at-value = c .before .before in
+    let at-take-decimal = at-value .before .before in
+    let at-start = at-take-decimal .before .before in
+    between _ _ _ _ _ _ (subst (ReadsNumber (numbers 0 (at-start .args .max)) (now (at-start .args .s)) (at-start .args .a))
+    (at-value .value .given .1) (at-take-decimal .take-decimal .ensures)) (c .if1 .left)
 
 pub take-between-spec : {M : Type 1} → statement M
 take-between-spec =

@@ -30,7 +30,11 @@ spelled-requires : tie.Need-spelled-requires Inv-loop μ-loop
 spelled-requires c κs = search needs
 
 returns : tie.Need-returns Inv-loop μ-loop
-returns c = settled _ _ _ _ _ (c .before .before .before .before .loop .inv) _ refl (low-stops _ _ (c .before .before .before .loop-test .taken) (c .before .if1 .taken)) (c .spelled .result) (c .spelled .ensures)
+returns c =
+    let at-loop-test = c .before .before .before in
+    let at-loop = at-loop-test .before in
+    settled _ _ _ _ _ (at-loop .loop .inv) _ refl (low-stops _ _ (at-loop-test .loop-test .taken) (c .before .if1 .taken))
+    (c .spelled .result) (c .spelled .ensures)
 
 sub-spelled-2 : tie.Need-sub-spelled-2 Inv-loop μ-loop
 sub-spelled-2 c = search needs
@@ -39,10 +43,21 @@ spelled-requires-2 : tie.Need-spelled-requires-2 Inv-loop μ-loop
 spelled-requires-2 c κs = search needs
 
 returns-2 : tie.Need-returns-2 Inv-loop μ-loop
-returns-2 c = settled _ _ _ _ _ (c .before .before .before .before .before .loop .inv) _ refl (high-stops _ _ (c .before .before .before .before .loop-test .taken) (c .before .if2 .taken)) (c .spelled2 .result) (c .spelled2 .ensures)
+returns-2 c =
+    let at-loop-test = c .before .before .before .before in
+    let at-loop = at-loop-test .before in
+    settled _ _ _ _ _ (at-loop .loop .inv) _ refl (high-stops _ _ (at-loop-test .loop-test .taken) (c .before .if2 .taken))
+    (c .spelled2 .result) (c .spelled2 .ensures)
 
 returns-3 : tie.Need-returns-3 Inv-loop μ-loop
-returns-3 c = above _ _ _ _ _ (c .before .before .before .before .before .loop .inv) (getD (now (c .before .before .before .before .before .before .before .args .s)) (c .before .before .before .before .before .loop .i) 0 - byte "0") (record { inside = c .before .before .before .before .loop-test .taken; low = c .before .before .if1 .left; high = c .before .if2 .left; digit = refl }) (omega arith)
+returns-3 c =
+    let at-if1 = c .before .before in
+    let at-loop-test = at-if1 .before .before in
+    let at-loop = at-loop-test .before in
+    let at-start = at-loop .before .before in
+    above _ _ _ _ _ (at-loop .loop .inv) (getD (now (at-start .args .s)) (at-loop .loop .i) 0 - byte "0")
+    (record { inside = at-loop-test .loop-test .taken; low = at-if1 .if1 .left; high = c .before .if2 .left; digit = refl })
+    (omega arith)
 
 wide-requires : tie.Need-wide-requires Inv-loop μ-loop
 wide-requires c κs = tt
@@ -54,7 +69,14 @@ sub-if4 : tie.Need-sub-if4 Inv-loop μ-loop
 sub-if4 c = search needs
 
 returns-4 : tie.Need-returns-4 Inv-loop μ-loop
-returns-4 c = above _ _ _ _ _ (c .before .before .before .before .before .before .before .loop .inv) (c .before .wide .result) (record { inside = c .before .before .before .before .before .before .loop-test .taken; low = c .before .before .before .before .if1 .left; high = c .before .before .before .if2 .left; digit = omega arith }) (omega arith)
+returns-4 c =
+    let at-if2 = c .before .before .before in
+    let at-if1 = at-if2 .before in
+    let at-loop-test = at-if1 .before .before in
+    let at-loop = at-loop-test .before in
+    above _ _ _ _ _ (at-loop .loop .inv) (c .before .wide .result)
+    (record { inside = at-loop-test .loop-test .taken; low = at-if1 .if1 .left; high = at-if2 .if2 .left; digit = omega arith })
+    (omega arith)
 
 add-v : tie.Need-add-v Inv-loop μ-loop
 add-v c = search needs
@@ -66,7 +88,14 @@ loop-less : tie.Need-loop-less Inv-loop μ-loop
 loop-less c = search needs
 
 loop-again : tie.Need-loop-again Inv-loop μ-loop
-loop-again c = more _ _ _ _ _ (c .before .before .before .before .before .before .before .loop .inv) (c .before .wide .result) (record { inside = c .before .before .before .before .before .before .loop-test .taken; low = c .before .before .before .before .if1 .left; high = c .before .before .before .if2 .left; digit = omega arith }) (omega arith)
+loop-again c =
+    let at-if2 = c .before .before .before in
+    let at-if1 = at-if2 .before in
+    let at-loop-test = at-if1 .before .before in
+    let at-loop = at-loop-test .before in
+    more _ _ _ _ _ (at-loop .loop .inv) (c .before .wide .result)
+    (record { inside = at-loop-test .loop-test .taken; low = at-if1 .if1 .left; high = at-if2 .if2 .left; digit = omega arith })
+    (omega arith)
 
 sub-spelled-3 : tie.Need-sub-spelled-3 Inv-loop μ-loop
 sub-spelled-3 c = search needs
@@ -75,7 +104,10 @@ spelled-requires-3 : tie.Need-spelled-requires-3 Inv-loop μ-loop
 spelled-requires-3 c κs = search needs
 
 returns-5 : tie.Need-returns-5 Inv-loop μ-loop
-returns-5 c = settled _ _ _ _ _ (c .before .before .loop .inv) _ refl (end-stops _ _ (c .before .loop-test .left)) (c .spelled3 .result) (c .spelled3 .ensures)
+returns-5 c =
+    let at-loop = c .before .before in
+    settled _ _ _ _ _ (at-loop .loop .inv) _ refl (end-stops _ _ (c .before .loop-test .left)) (c .spelled3 .result)
+    (c .spelled3 .ensures)
 
 pub take-decimal-spec : {M : Type 1} → statement M
 take-decimal-spec =

@@ -24,34 +24,83 @@ abbrev μ-loop : tie.MeasureT-loop
     cut .to - cut .from
 
 loop-holds : tie.Need-loop-holds Inv-loop μ-loop
-loop-holds c = ((refl, refl, refl, refl, refl), feeds-none _ _ _ _ _ _ (c .before .before .before .before .before .before .pre))
+loop-holds c =
+    let at-pre = c .before .before .before .before .before .before in
+    ((refl, refl, refl, refl, refl), feeds-none _ _ _ _ _ _ (at-pre .pre))
 
 take-one-requires : tie.Need-take-one-requires Inv-loop μ-loop
-take-one-requires c κs = (c .before .before .before .before .before .loop .inv) .1 .holds
+take-one-requires c κs =
+    let at-loop = c .before .before .before .before .before in
+    (at-loop .loop .inv) .1 .holds
 
 same-length : tie.Need-same-length Inv-loop μ-loop
-same-length c = omega (arith, (c .before .before .before .before .before .before .before .before .before .before .before .before .before .before .before .before .before .before .before .loop .inv) .0 .0, c .before .before .before .before .before .before .before .before .before .before .before .before .before .take-one .kept)
+same-length c =
+    let at-take-one = c .before .before .before .before .before .before .before .before .before .before .before .before .before in
+    let at-loop = at-take-one .before .before .before .before .before .before in
+    omega (arith, (at-loop .loop .inv) .0 .0, at-take-one .take-one .kept)
 
 same-length-2 : tie.Need-same-length-2 Inv-loop μ-loop
-same-length-2 c = omega (arith, (c .before .before .before .before .before .before .before .before .before .before .before .before .before .before .before .before .before .before .before .loop .inv) .0 .1, c .before .before .before .before .before .before .before .before .before .before .before .before .before .take-one .kept)
+same-length-2 c =
+    let at-take-one = c .before .before .before .before .before .before .before .before .before .before .before .before .before in
+    let at-loop = at-take-one .before .before .before .before .before .before in
+    omega (arith, (at-loop .loop .inv) .0 .1, at-take-one .take-one .kept)
 
 same-length-3 : tie.Need-same-length-3 Inv-loop μ-loop
-same-length-3 c = omega (arith, (c .before .before .before .before .before .before .before .before .before .before .before .before .before .before .before .before .before .before .before .loop .inv) .0 .2, c .before .before .before .before .before .before .before .before .before .before .before .before .before .take-one .kept)
+same-length-3 c =
+    let at-take-one = c .before .before .before .before .before .before .before .before .before .before .before .before .before in
+    let at-loop = at-take-one .before .before .before .before .before .before in
+    omega (arith, (at-loop .loop .inv) .0 .2, at-take-one .take-one .kept)
 
 same-length-4 : tie.Need-same-length-4 Inv-loop μ-loop
-same-length-4 c = omega (arith, (c .before .before .before .before .before .before .before .before .before .before .before .before .before .before .before .before .before .before .before .loop .inv) .0 .3, c .before .before .before .before .before .before .before .before .before .before .before .before .before .take-one .kept)
+same-length-4 c =
+    let at-take-one = c .before .before .before .before .before .before .before .before .before .before .before .before .before in
+    let at-loop = at-take-one .before .before .before .before .before .before in
+    omega (arith, (at-loop .loop .inv) .0 .3, at-take-one .take-one .kept)
 
 same-length-5 : tie.Need-same-length-5 Inv-loop μ-loop
-same-length-5 c = omega (arith, (c .before .before .before .before .before .before .before .before .before .before .before .before .before .before .before .before .before .before .before .loop .inv) .0 .4, c .before .before .before .before .before .before .before .before .before .before .before .before .before .take-one .kept)
+same-length-5 c =
+    let at-take-one = c .before .before .before .before .before .before .before .before .before .before .before .before .before in
+    let at-loop = at-take-one .before .before .before .before .before .before in
+    omega (arith, (at-loop .loop .inv) .0 .4, at-take-one .take-one .kept)
 
 returns : tie.Need-returns Inv-loop μ-loop
-returns c = record { feeds = feeds-on ((c .before .before .before .before .before .before .before .before .before .before .before .before .before .before .before .before .before .before .before .loop .inv) .1) ((c .before .before .before .before .before .before .before .before .before .before .before .before .before .take-one .ensures) .feeds); rests = (c .before .before .before .before .before .before .before .before .before .before .before .before .before .take-one .ensures) .rests (c .if1 .taken) }
+returns c =
+    let at-take-one = c .before .before .before .before .before .before .before .before .before .before .before .before .before in
+    let at-loop = at-take-one .before .before .before .before .before .before in
+    record {
+      feeds = feeds-on ((at-loop .loop .inv) .1) ((at-take-one .take-one .ensures) .feeds);
+      rests
+          = (at-take-one .take-one .ensures) .rests (c .if1 .taken);
+    }
 
 loop-less : tie.Need-loop-less Inv-loop μ-loop
-loop-less c = omega (arith, (c .before .before .before .before .before .before .before .before .before .before .before .before .before .take-one .ensures) .onward (c .if1 .left), (c .before .before .before .before .before .before .before .before .before .before .before .before .before .take-one .ensures) .feeds .same, (c .before .before .before .before .before .before .before .before .before .before .before .before .before .take-one .ensures) .feeds .holds .low)
+loop-less c =
+    let at-take-one = c .before .before .before .before .before .before .before .before .before .before .before .before .before in
+    omega (
+      arith,
+      (at-take-one .take-one .ensures) .onward (c .if1 .left),
+      (at-take-one .take-one .ensures) .feeds .same,
+      (at-take-one .take-one .ensures) .feeds .holds .low,
+    )
 
 loop-again : tie.Need-loop-again Inv-loop μ-loop
-loop-again c = ((omega (arith, (c .before .before .before .before .before .before .before .before .before .before .before .before .before .before .before .before .before .before .before .loop .inv) .0 .0, c .before .before .before .before .before .before .before .before .before .before .before .before .before .take-one .kept), omega (arith, (c .before .before .before .before .before .before .before .before .before .before .before .before .before .before .before .before .before .before .before .loop .inv) .0 .1, c .before .before .before .before .before .before .before .before .before .before .before .before .before .take-one .kept), omega (arith, (c .before .before .before .before .before .before .before .before .before .before .before .before .before .before .before .before .before .before .before .loop .inv) .0 .2, c .before .before .before .before .before .before .before .before .before .before .before .before .before .take-one .kept), omega (arith, (c .before .before .before .before .before .before .before .before .before .before .before .before .before .before .before .before .before .before .before .loop .inv) .0 .3, c .before .before .before .before .before .before .before .before .before .before .before .before .before .take-one .kept), omega (arith, (c .before .before .before .before .before .before .before .before .before .before .before .before .before .before .before .before .before .before .before .loop .inv) .0 .4, c .before .before .before .before .before .before .before .before .before .before .before .before .before .take-one .kept)), feeds-on ((c .before .before .before .before .before .before .before .before .before .before .before .before .before .before .before .before .before .before .before .loop .inv) .1) ((c .before .before .before .before .before .before .before .before .before .before .before .before .before .take-one .ensures) .feeds))
+loop-again c =
+    let at-take-one = c .before .before .before .before .before .before .before .before .before .before .before .before .before in
+    let at-loop = at-take-one .before .before .before .before .before .before in (
+      (
+        omega (arith, (at-loop .loop .inv) .0 .0, at-take-one .take-one .kept),
+        omega
+            (arith, (at-loop .loop .inv) .0 .1, at-take-one .take-one .kept),
+        omega
+            (arith, (at-loop .loop .inv) .0 .2, at-take-one .take-one .kept),
+        omega
+            (arith, (at-loop .loop .inv) .0 .3, at-take-one .take-one .kept),
+        omega
+            (arith, (at-loop .loop .inv) .0 .4, at-take-one .take-one .kept),
+      ),
+      feeds-on ((at-loop .loop .inv) .1)
+          ((at-take-one .take-one .ensures) .feeds),
+    )
 
 pub take-in-spec : {M : Type 1} → statement M
 take-in-spec =

@@ -16,13 +16,26 @@ enum-known-next : tie.Need-enum-known-next
 enum-known-next c = search needs
 
 sub-receive : tie.Need-sub-receive
-sub-receive c = omega (arith, (is-message _ (c .before .before .before .before .before .before .next .given .1) (c .before .before .before .before .before .before .before .before .next-piece .ensures)) .onward)
+sub-receive c =
+    let at-next = c .before .before .before .before .before .before in
+    let at-next-piece = at-next .before .before in
+    omega (arith, (is-message _ (at-next .next .given .1) (at-next-piece .next-piece .ensures)) .onward)
 
 part-receive-start : tie.Need-part-receive-start
-part-receive-start c = omega (arith, (is-message _ (c .before .before .before .before .before .before .next .given .1) (c .before .before .before .before .before .before .before .before .next-piece .ensures)) .onward)
+part-receive-start c =
+    let at-next = c .before .before .before .before .before .before in
+    let at-next-piece = at-next .before .before in
+    omega (arith, (is-message _ (at-next .next .given .1) (at-next-piece .next-piece .ensures)) .onward)
 
 part-receive-end : tie.Need-part-receive-end
-part-receive-end c = omega (arith, (is-message _ (c .before .before .before .before .before .before .next .given .1) (c .before .before .before .before .before .before .before .before .next-piece .ensures)) .holds .low, (is-message _ (c .before .before .before .before .before .before .next .given .1) (c .before .before .before .before .before .before .before .before .next-piece .ensures)) .holds .high)
+part-receive-end c =
+    let at-next = c .before .before .before .before .before .before in
+    let at-next-piece = at-next .before .before in
+    omega (
+      arith,
+      (is-message _ (at-next .next .given .1) (at-next-piece .next-piece .ensures)) .holds .low,
+      (is-message _ (at-next .next .given .1) (at-next-piece .next-piece .ensures)) .holds .high,
+    )
 
 receive-requires : tie.Need-receive-requires
 receive-requires c κs = search needs
@@ -49,13 +62,21 @@ same-length-5 : tie.Need-same-length-5
 same-length-5 c = search needs
 
 returns : tie.Need-returns
-returns c = one-message _ (is-message _ (c .before .before .before .before .before .before .before .before .before .before .before .before .before .before .before .before .before .before .before .next .given .1) (c .before .before .before .before .before .before .before .before .before .before .before .before .before .before .before .before .before .before .before .before .before .next-piece .ensures)) (c .before .before .before .before .before .before .before .before .before .before .before .receive .ensures)
+returns c =
+    let at-receive = c .before .before .before .before .before .before .before .before .before .before .before in
+    let at-next = at-receive .before .before .before .before .before .before .before .before in
+    let at-next-piece = at-next .before .before in
+    one-message _ (is-message _ (at-next .next .given .1) (at-next-piece .next-piece .ensures)) (at-receive .receive .ensures)
 
 returns-2 : tie.Need-returns-2
-returns-2 c = one-long (is-long _ (c .before .next2 .given .1) (c .before .before .before .next-piece .ensures))
+returns-2 c =
+    let at-next-piece = c .before .before .before in
+    one-long (is-long _ (c .before .next2 .given .1) (at-next-piece .next-piece .ensures))
 
 returns-3 : tie.Need-returns-3
-returns-3 c = one-more (is-more _ (c .before .next3 .given .1) (c .before .before .before .next-piece .ensures))
+returns-3 c =
+    let at-next-piece = c .before .before .before in
+    one-more (is-more _ (c .before .next3 .given .1) (at-next-piece .next-piece .ensures))
 
 pub take-one-spec : {M : Type 1} → statement M
 take-one-spec =

@@ -17,7 +17,8 @@ add-result : tie.Need-add-result
 add-result c = search needs
 
 returns : tie.Need-returns
-returns c = sized _ (key-text _) (simp length-append (omega (arith, size-hex (c .args .hi ∷ c .args .lo ∷ []) (c .args .len)))) (omega arith)
+returns c = sized _ (key-text _) (simp length-append (omega (arith, size-hex (c .args .hi ∷ c .args .lo ∷ []) (c .args .len))))
+    (omega arith)
 
 pub key-row-size-spec : {M : Type 1} → statement M
 key-row-size-spec = tie.close (tie.spec mul-result add-result returns)

@@ -21,7 +21,9 @@ add-result-2 : tie.Need-add-result-2
 add-result-2 c = search needs
 
 returns : tie.Need-returns
-returns c = sized _ (head-text _ _) (simp length-append (omega (arith, c .before .id-size .ensures, c .counters-size .ensures))) (omega (arith, c .before .id-size .ensures, c .counters-size .ensures))
+returns c =
+    sized _ (head-text _ _) (simp length-append (omega (arith, c .before .id-size .ensures, c .counters-size .ensures)))
+    (omega (arith, c .before .id-size .ensures, c .counters-size .ensures))
 
 pub message-head-size-spec : {M : Type 1} → statement M
 message-head-size-spec =

@@ -21,7 +21,10 @@ add-result-2 : tie.Need-add-result-2
 add-result-2 c = search needs
 
 returns : tie.Need-returns
-returns c = let s = c .spot-size .ensures .size (c .before .before .args .map) (c .before .before .args .list) in sized _ (place-text _ _ _ _) (simp length-append (omega arith)) (omega arith)
+returns c =
+    let at-start = c .before .before in
+    let s = c .spot-size .ensures .size (at-start .args .map) (at-start .args .list) in sized _ (place-text _ _ _ _)
+    (simp length-append (omega arith)) (omega arith)
 
 pub place-line-size-spec : {M : Type 1} → statement M
 place-line-size-spec =

@@ -8,19 +8,30 @@ use Rattle.lines.proofs.put_key_row.Statement.{statement}
 use Rattle.lines.proofs.put_key_row.Tie as tie
 
 put-hex-key-requires : tie.Need-put-hex-key-requires
-put-hex-key-requires c κs = (c .before .before .pre .0, first-room (hex _) _ (c .before .before .args .buf .now) (key-text _) (c .before .before .pre .1))
+put-hex-key-requires c κs = (
+  c .before .before .pre .0,
+  first-room (hex _) _ (c .before .before .args .buf .now) (key-text _)
+      (c .before .before .pre .1),
+)
 
 slice-aggregate-then-text : tie.Need-slice-aggregate-then-text
 slice-aggregate-then-text c = search needs
 
 then-text-requires : tie.Need-then-text-requires
-then-text-requires c κs = last-room (first (c .before .before .before .before .put-hex-key .ensures) (key-text _) (c .before .before .before .before .before .before .before .pre .1))
+then-text-requires c κs =
+    let at-put-hex-key = c .before .before .before .before in
+    let at-pre = at-put-hex-key .before .before .before in
+    last-room (first (at-put-hex-key .put-hex-key .ensures) (key-text _) (at-pre .pre .1))
 
 same-length : tie.Need-same-length
 same-length c = search needs
 
 returns : tie.Need-returns
-returns c = last (c .before .before .then-text .ensures) (first (c .before .before .before .before .before .before .before .put-hex-key .ensures) (key-text _) (c .before .before .before .before .before .before .before .before .before .before .pre .1))
+returns c =
+    let at-then-text = c .before .before in
+    let at-put-hex-key = at-then-text .before .before .before .before .before in
+    let at-pre = at-put-hex-key .before .before .before in
+    last (at-then-text .then-text .ensures) (first (at-put-hex-key .put-hex-key .ensures) (key-text _) (at-pre .pre .1))
 
 pub put-key-row-spec : {M : Type 1} → statement M
 put-key-row-spec =

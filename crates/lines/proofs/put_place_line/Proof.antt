@@ -13,25 +13,54 @@ slice-aggregate-put-text : tie.Need-slice-aggregate-put-text
 slice-aggregate-put-text c = search needs
 
 put-text-requires : tie.Need-put-text-requires
-put-text-requires c κs = first-room (ascii "place=") _ (c .before .before .before .args .buf .now) (place-text _ _ _ _) (c .before .before .before .pre .2)
+put-text-requires c κs =
+    let at-start = c .before .before .before in
+    first-room (ascii "place=") _ (at-start .args .buf .now) (place-text _ _ _ _) (at-start .pre .2)
 
 then-decimal-requires : tie.Need-then-decimal-requires
-then-decimal-requires c κs = (c .before .before .before .before .before .before .before .pre .0, room (decimal _) _ (first (c .before .before .before .put-text .ensures) (place-text _ _ _ _) (c .before .before .before .before .before .before .before .pre .2)))
+then-decimal-requires c κs =
+    let at-put-text = c .before .before .before in
+    let at-pre = at-put-text .before .before .before .before in
+    (at-pre .pre .0, room (decimal _) _ (first (at-put-text .put-text .ensures) (place-text _ _ _ _) (at-pre .pre .2)))
 
 then-spot-requires : tie.Need-then-spot-requires
-then-spot-requires c κs = (c .before .before .before .before .before .before .before .before .before .before .before .pre .0, c .before .before .before .before .before .before .before .before .before .before .before .pre .1, room (spotText _ _) _ (next (c .before .before .before .then-decimal .ensures) _ (first (c .before .before .before .before .before .before .before .put-text .ensures) (place-text _ _ _ _) (c .before .before .before .before .before .before .before .before .before .before .before .pre .2))))
+then-spot-requires c κs =
+    let at-then-decimal = c .before .before .before in
+    let at-put-text = at-then-decimal .before .before .before .before in
+    let at-pre = at-put-text .before .before .before .before in (
+      at-pre .pre .0,
+      at-pre .pre .1,
+      room (spotText _ _) _
+          (next (at-then-decimal .then-decimal .ensures) _
+          (first (at-put-text .put-text .ensures) (place-text _ _ _ _) (at-pre .pre .2))),
+    )
 
 slice-aggregate-then-text : tie.Need-slice-aggregate-then-text
 slice-aggregate-then-text c = search needs
 
 then-text-requires : tie.Need-then-text-requires
-then-text-requires c κs = last-room (next (c .before .before .before .before .then-spot .ensures) _ (next (c .before .before .before .before .before .before .before .before .then-decimal .ensures) _ (first (c .before .before .before .before .before .before .before .before .before .before .before .before .put-text .ensures) (place-text _ _ _ _) (c .before .before .before .before .before .before .before .before .before .before .before .before .before .before .before .before .pre .2))))
+then-text-requires c κs =
+    let at-then-spot = c .before .before .before .before in
+    let at-then-decimal = at-then-spot .before .before .before .before in
+    let at-put-text = at-then-decimal .before .before .before .before in
+    let at-pre = at-put-text .before .before .before .before in
+    last-room (next (at-then-spot .then-spot .ensures) _
+    (next (at-then-decimal .then-decimal .ensures) _
+    (first (at-put-text .put-text .ensures) (place-text _ _ _ _) (at-pre .pre .2))))
 
 same-length : tie.Need-same-length
 same-length c = search needs
 
 returns : tie.Need-returns
-returns c = last (c .before .before .then-text .ensures) (next (c .before .before .before .before .before .before .before .then-spot .ensures) _ (next (c .before .before .before .before .before .before .before .before .before .before .before .then-decimal .ensures) _ (first (c .before .before .before .before .before .before .before .before .before .before .before .before .before .before .before .put-text .ensures) (place-text _ _ _ _) (c .before .before .before .before .before .before .before .before .before .before .before .before .before .before .before .before .before .before .before .pre .2))))
+returns c =
+    let at-then-text = c .before .before in
+    let at-then-spot = at-then-text .before .before .before .before .before in
+    let at-then-decimal = at-then-spot .before .before .before .before in
+    let at-put-text = at-then-decimal .before .before .before .before in
+    let at-pre = at-put-text .before .before .before .before in
+    last (at-then-text .then-text .ensures) (next (at-then-spot .then-spot .ensures) _
+    (next (at-then-decimal .then-decimal .ensures) _
+    (first (at-put-text .put-text .ensures) (place-text _ _ _ _) (at-pre .pre .2))))
 
 pub put-place-line-spec : {M : Type 1} → statement M
 put-place-line-spec =

@@ -12,22 +12,38 @@ slice-aggregate-put-text : tie.Need-slice-aggregate-put-text
 slice-aggregate-put-text c = search needs
 
 put-text-requires : tie.Need-put-text-requires
-put-text-requires c κs = first-room (ascii "seen=") _ (c .before .before .before .args .buf .now) (seen-text _) (c .before .before .before .pre .1)
+put-text-requires c κs =
+    let at-start = c .before .before .before in
+    first-room (ascii "seen=") _ (at-start .args .buf .now) (seen-text _) (at-start .pre .1)
 
 then-counters-requires : tie.Need-then-counters-requires
-then-counters-requires c κs = (c .before .before .before .before .before .before .before .pre .0, room (countersText _) _ (first (c .before .before .before .put-text .ensures) (seen-text _) (c .before .before .before .before .before .before .before .pre .1)))
+then-counters-requires c κs =
+    let at-put-text = c .before .before .before in
+    let at-pre = at-put-text .before .before .before .before in
+    (at-pre .pre .0, room (countersText _) _ (first (at-put-text .put-text .ensures) (seen-text _) (at-pre .pre .1)))
 
 slice-aggregate-then-text : tie.Need-slice-aggregate-then-text
 slice-aggregate-then-text c = search needs
 
 then-text-requires : tie.Need-then-text-requires
-then-text-requires c κs = last-room (next (c .before .before .before .before .then-counters .ensures) _ (first (c .before .before .before .before .before .before .before .before .put-text .ensures) (seen-text _) (c .before .before .before .before .before .before .before .before .before .before .before .before .pre .1)))
+then-text-requires c κs =
+    let at-then-counters = c .before .before .before .before in
+    let at-put-text = at-then-counters .before .before .before .before in
+    let at-pre = at-put-text .before .before .before .before in
+    last-room (next (at-then-counters .then-counters .ensures) _
+    (first (at-put-text .put-text .ensures) (seen-text _) (at-pre .pre .1)))
 
 same-length : tie.Need-same-length
 same-length c = search needs
 
 returns : tie.Need-returns
-returns c = last (c .before .before .then-text .ensures) (next (c .before .before .before .before .before .before .before .then-counters .ensures) _ (first (c .before .before .before .before .before .before .before .before .before .before .before .put-text .ensures) (seen-text _) (c .before .before .before .before .before .before .before .before .before .before .before .before .before .before .before .pre .1)))
+returns c =
+    let at-then-text = c .before .before in
+    let at-then-counters = at-then-text .before .before .before .before .before in
+    let at-put-text = at-then-counters .before .before .before .before in
+    let at-pre = at-put-text .before .before .before .before in
+    last (at-then-text .then-text .ensures) (next (at-then-counters .then-counters .ensures) _
+    (first (at-put-text .put-text .ensures) (seen-text _) (at-pre .pre .1)))
 
 pub put-seen-line-spec : {M : Type 1} → statement M
 put-seen-line-spec =

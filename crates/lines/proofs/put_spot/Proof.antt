@@ -19,13 +19,26 @@ slice-aggregate-put-text : tie.Need-slice-aggregate-put-text
 slice-aggregate-put-text c = search needs
 
 put-text-requires : tie.Need-put-text-requires
-put-text-requires c κs = first-room (byte "{" ∷ _ ∷ []) _ (c .before .before .before .before .before .before .before .args .buf .now) (key-spot (c .before .before .flag .ensures) (c .before .before .before .before .spot .given .1)) (c .before .before .before .before .before .before .before .pre .2)
+put-text-requires c κs =
+    let at-flag = c .before .before in
+    let at-spot = at-flag .before .before in
+    let at-start = at-spot .before .before .before in
+    first-room (byte "{" ∷ _ ∷ []) _ (at-start .args .buf .now) (key-spot (at-flag .flag .ensures) (at-spot .spot .given .1))
+    (at-start .pre .2)
 
 slice-aggregate-then-hex : tie.Need-slice-aggregate-then-hex
 slice-aggregate-then-hex c = search needs
 
 then-hex-requires : tie.Need-then-hex-requires
-then-hex-requires c κs = (let h = key-short (c .before .before .before .before .before .before .before .before .before .spot .given .1) (c .before .before .before .before .before .before .before .before .before .before .before .before .pre .1) in omega arith, last-room (first (c .before .before .before .before .put-text .ensures) (key-spot (c .before .before .before .before .before .before .before .flag .ensures) (c .before .before .before .before .before .before .before .before .before .spot .given .1)) (c .before .before .before .before .before .before .before .before .before .before .before .before .pre .2)))
+then-hex-requires c κs =
+    let at-put-text = c .before .before .before .before in
+    let at-flag = at-put-text .before .before .before in
+    let at-spot = at-flag .before .before in
+    let at-pre = at-spot .before .before .before in (
+      let h = key-short (at-spot .spot .given .1) (at-pre .pre .1) in omega arith,
+      last-room
+          (first (at-put-text .put-text .ensures) (key-spot (at-flag .flag .ensures) (at-spot .spot .given .1)) (at-pre .pre .2)),
+    )
 
 enum-known-spot-2 : tie.Need-enum-known-spot-2
 enum-known-spot-2 c = search needs
@@ -37,22 +50,49 @@ slice-aggregate-put-text-2 : tie.Need-slice-aggregate-put-text-2
 slice-aggregate-put-text-2 c = search needs
 
 put-text-requires-2 : tie.Need-put-text-requires-2
-put-text-requires-2 c κs = first-room (byte "[" ∷ _ ∷ []) _ (c .before .before .before .before .before .before .before .args .buf .now) (element-spot (c .before .before .flag2 .ensures) (c .before .before .before .before .spot2 .given .1)) (c .before .before .before .before .before .before .before .pre .2)
+put-text-requires-2 c κs =
+    let at-flag2 = c .before .before in
+    let at-spot2 = at-flag2 .before .before in
+    let at-start = at-spot2 .before .before .before in
+    first-room (byte "[" ∷ _ ∷ []) _ (at-start .args .buf .now)
+    (element-spot (at-flag2 .flag2 .ensures) (at-spot2 .spot2 .given .1)) (at-start .pre .2)
 
 then-id-requires : tie.Need-then-id-requires
-then-id-requires c κs = (c .before .before .before .before .before .before .before .before .before .before .before .pre .0, last-room (first (c .before .before .before .put-text2 .ensures) (element-spot (c .before .before .before .before .before .before .flag2 .ensures) (c .before .before .before .before .before .before .before .before .spot2 .given .1)) (c .before .before .before .before .before .before .before .before .before .before .before .pre .2)))
+then-id-requires c κs =
+    let at-put-text2 = c .before .before .before in
+    let at-flag2 = at-put-text2 .before .before .before in
+    let at-spot2 = at-flag2 .before .before in
+    let at-pre = at-spot2 .before .before .before in (
+      at-pre .pre .0,
+      last-room (first (at-put-text2 .put-text2 .ensures)
+          (element-spot (at-flag2 .flag2 .ensures) (at-spot2 .spot2 .given .1)) (at-pre .pre .2)),
+    )
 
 same-length : tie.Need-same-length
 same-length c = search needs
 
 returns : tie.Need-returns
-returns c = last (c .before .before .then-hex .ensures) (first (c .before .before .before .before .before .before .before .put-text .ensures) (key-spot (c .before .before .before .before .before .before .before .before .before .before .flag .ensures) (c .before .before .before .before .before .before .before .before .before .before .before .before .spot .given .1)) (c .before .before .before .before .before .before .before .before .before .before .before .before .before .before .before .pre .2))
+returns c =
+    let at-then-hex = c .before .before in
+    let at-put-text = at-then-hex .before .before .before .before .before in
+    let at-flag = at-put-text .before .before .before in
+    let at-spot = at-flag .before .before in
+    let at-pre = at-spot .before .before .before in
+    last (at-then-hex .then-hex .ensures) (first (at-put-text .put-text .ensures)
+    (key-spot (at-flag .flag .ensures) (at-spot .spot .given .1)) (at-pre .pre .2))
 
 same-length-2 : tie.Need-same-length-2
 same-length-2 c = search needs
 
 returns-2 : tie.Need-returns-2
-returns-2 c = last (c .before .before .then-id .ensures) (first (c .before .before .before .before .before .before .put-text2 .ensures) (element-spot (c .before .before .before .before .before .before .before .before .before .flag2 .ensures) (c .before .before .before .before .before .before .before .before .before .before .before .spot2 .given .1)) (c .before .before .before .before .before .before .before .before .before .before .before .before .before .before .pre .2))
+returns-2 c =
+    let at-then-id = c .before .before in
+    let at-put-text2 = at-then-id .before .before .before .before in
+    let at-flag2 = at-put-text2 .before .before .before in
+    let at-spot2 = at-flag2 .before .before in
+    let at-pre = at-spot2 .before .before .before in
+    last (at-then-id .then-id .ensures) (first (at-put-text2 .put-text2 .ensures)
+    (element-spot (at-flag2 .flag2 .ensures) (at-spot2 .spot2 .given .1)) (at-pre .pre .2))
 
 pub put-spot-spec : {M : Type 1} → statement M
 put-spot-spec =

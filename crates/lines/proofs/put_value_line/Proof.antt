@@ -11,16 +11,25 @@ slice-aggregate-put-text : tie.Need-slice-aggregate-put-text
 slice-aggregate-put-text c = search needs
 
 put-text-requires : tie.Need-put-text-requires
-put-text-requires c κs = first-room (ascii "value=") _ (c .before .before .before .args .buf .now) (value-line-text _) (c .before .before .before .pre .2)
+put-text-requires c κs =
+    let at-start = c .before .before .before in
+    first-room (ascii "value=") _ (at-start .args .buf .now) (value-line-text _) (at-start .pre .2)
 
 then-value-row-requires : tie.Need-then-value-row-requires
-then-value-row-requires c κs = (c .before .before .before .before .before .before .before .pre .0, c .before .before .before .before .before .before .before .pre .1, last-room (first (c .before .before .before .put-text .ensures) (value-line-text _) (c .before .before .before .before .before .before .before .pre .2)))
+then-value-row-requires c κs =
+    let at-put-text = c .before .before .before in
+    let at-pre = at-put-text .before .before .before .before in
+    (at-pre .pre .0, at-pre .pre .1, last-room (first (at-put-text .put-text .ensures) (value-line-text _) (at-pre .pre .2)))
 
 same-length : tie.Need-same-length
 same-length c = search needs
 
 returns : tie.Need-returns
-returns c = last (c .before .before .then-value-row .ensures) (first (c .before .before .before .before .before .before .put-text .ensures) (value-line-text _) (c .before .before .before .before .before .before .before .before .before .before .pre .2))
+returns c =
+    let at-then-value-row = c .before .before in
+    let at-put-text = at-then-value-row .before .before .before .before in
+    let at-pre = at-put-text .before .before .before .before in
+    last (at-then-value-row .then-value-row .ensures) (first (at-put-text .put-text .ensures) (value-line-text _) (at-pre .pre .2))
 
 pub put-value-line-spec : {M : Type 1} → statement M
 put-value-line-spec =

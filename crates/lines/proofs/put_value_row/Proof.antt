@@ -9,28 +9,57 @@ use Rattle.lines.proofs.put_value_row.Statement.{statement}
 use Rattle.lines.proofs.put_value_row.Tie as tie
 
 put-id-requires : tie.Need-put-id-requires
-put-id-requires c κs = (c .before .before .pre .0, first-room (idText _) _ (c .before .before .args .buf .now) (value-text _) (c .before .before .pre .2))
+put-id-requires c κs = (
+  c .before .before .pre .0,
+  first-room (idText _) _ (c .before .before .args .buf .now) (value-text _)
+      (c .before .before .pre .2),
+)
 
 slice-aggregate-then-text : tie.Need-slice-aggregate-then-text
 slice-aggregate-then-text c = search needs
 
 then-text-requires : tie.Need-then-text-requires
-then-text-requires c κs = room (ascii ":") _ (first (c .before .before .before .before .put-id .ensures) (value-text _) (c .before .before .before .before .before .before .before .pre .2))
+then-text-requires c κs =
+    let at-put-id = c .before .before .before .before in
+    let at-pre = at-put-id .before .before .before in
+    room (ascii ":") _ (first (at-put-id .put-id .ensures) (value-text _) (at-pre .pre .2))
 
 then-plain-requires : tie.Need-then-plain-requires
-then-plain-requires c κs = (c .before .before .before .before .before .before .before .before .before .before .before .pre .0, c .before .before .before .before .before .before .before .before .before .before .before .pre .1, room (plainText _) _ (next (c .before .before .before .then-text .ensures) _ (first (c .before .before .before .before .before .before .before .before .put-id .ensures) (value-text _) (c .before .before .before .before .before .before .before .before .before .before .before .pre .2))))
+then-plain-requires c κs =
+    let at-then-text = c .before .before .before in
+    let at-put-id = at-then-text .before .before .before .before .before in
+    let at-pre = at-put-id .before .before .before in (
+      at-pre .pre .0,
+      at-pre .pre .1,
+      room (plainText _) _
+          (next (at-then-text .then-text .ensures) _ (first (at-put-id .put-id .ensures) (value-text _) (at-pre .pre .2))),
+    )
 
 slice-aggregate-then-text-2 : tie.Need-slice-aggregate-then-text-2
 slice-aggregate-then-text-2 c = search needs
 
 then-text-requires-2 : tie.Need-then-text-requires-2
-then-text-requires-2 c κs = last-room (next (c .before .before .before .before .then-plain .ensures) _ (next (c .before .before .before .before .before .before .before .before .then-text .ensures) _ (first (c .before .before .before .before .before .before .before .before .before .before .before .before .before .put-id .ensures) (value-text _) (c .before .before .before .before .before .before .before .before .before .before .before .before .before .before .before .before .pre .2))))
+then-text-requires-2 c κs =
+    let at-then-plain = c .before .before .before .before in
+    let at-then-text = at-then-plain .before .before .before .before in
+    let at-put-id = at-then-text .before .before .before .before .before in
+    let at-pre = at-put-id .before .before .before in
+    last-room (next (at-then-plain .then-plain .ensures) _
+    (next (at-then-text .then-text .ensures) _ (first (at-put-id .put-id .ensures) (value-text _) (at-pre .pre .2))))
 
 same-length : tie.Need-same-length
 same-length c = search needs
 
 returns : tie.Need-returns
-returns c = last (c .before .before .then-text2 .ensures) (next (c .before .before .before .before .before .before .before .then-plain .ensures) _ (next (c .before .before .before .before .before .before .before .before .before .before .before .then-text .ensures) _ (first (c .before .before .before .before .before .before .before .before .before .before .before .before .before .before .before .before .put-id .ensures) (value-text _) (c .before .before .before .before .before .before .before .before .before .before .before .before .before .before .before .before .before .before .before .pre .2))))
+returns c =
+    let at-then-text2 = c .before .before in
+    let at-then-plain = at-then-text2 .before .before .before .before .before in
+    let at-then-text = at-then-plain .before .before .before .before in
+    let at-put-id = at-then-text .before .before .before .before .before in
+    let at-pre = at-put-id .before .before .before in
+    last (at-then-text2 .then-text2 .ensures)
+    (next (at-then-plain .then-plain .ensures) _
+    (next (at-then-text .then-text .ensures) _ (first (at-put-id .put-id .ensures) (value-text _) (at-pre .pre .2))))
 
 pub put-value-row-spec : {M : Type 1} → statement M
 put-value-row-spec =

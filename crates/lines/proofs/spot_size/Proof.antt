@@ -9,10 +9,14 @@ enum-known-spot : tie.Need-enum-known-spot
 enum-known-spot c = search needs
 
 mul-result : tie.Need-mul-result
-mul-result c = let h = key-short (c .before .spot .given .1) (c .before .before .before .pre .1) in search needs
+mul-result c =
+    let at-pre = c .before .before .before in
+    let h = key-short (c .before .spot .given .1) (at-pre .pre .1) in search needs
 
 add-result : tie.Need-add-result
-add-result c = let h = key-short (c .before .spot .given .1) (c .before .before .before .pre .1) in search needs
+add-result c =
+    let at-pre = c .before .before .before in
+    let h = key-short (c .before .spot .given .1) (at-pre .pre .1) in search needs
 
 enum-known-spot-2 : tie.Need-enum-known-spot-2
 enum-known-spot-2 c = search needs
@@ -24,7 +28,9 @@ add-result-2 : tie.Need-add-result-2
 add-result-2 c = search needs
 
 returns : tie.Need-returns
-returns c = key-sized (c .before .spot .given .1) (c .before .before .before .pre .1)
+returns c =
+    let at-pre = c .before .before .before in
+    key-sized (c .before .spot .given .1) (at-pre .pre .1)
 
 returns-2 : tie.Need-returns-2
 returns-2 c = element-sized (c .before .before .spot2 .given .1) (c .id-size .ensures)

@@ -24,7 +24,10 @@ same-length : tie.Need-same-length
 same-length c = search needs
 
 returns : tie.Need-returns
-returns c = came-back _ _ _ (c .before .before .before .before .before .pre .2) (c .before .before .put-value-row .ensures)
+returns c =
+    let at-put-value-row = c .before .before in
+    let at-pre = at-put-value-row .before .before .before in
+    came-back _ _ _ (at-pre .pre .2) (at-put-value-row .put-value-row .ensures)
 
 pub then-value-row-spec : {M : Type 1} → statement M
 then-value-row-spec =

@@ -15,7 +15,8 @@ add-result : tie.Need-add-result
 add-result c = search needs
 
 returns : tie.Need-returns
-returns c = sized _ (value-line-text _) (simp length-append (omega (arith, c .value-row-size .ensures))) (omega (arith, c .value-row-size .ensures))
+returns c = sized _ (value-line-text _) (simp length-append (omega (arith, c .value-row-size .ensures)))
+    (omega (arith, c .value-row-size .ensures))
 
 pub value-line-size-spec : {M : Type 1} → statement M
 value-line-size-spec = tie.close (tie.spec value-row-size-requires add-result returns)

@@ -21,7 +21,9 @@ add-result-2 : tie.Need-add-result-2
 add-result-2 c = search needs
 
 returns : tie.Need-returns
-returns c = sized _ (value-text _) (simp length-append (omega (arith, c .before .id-size .ensures, c .plain-size .ensures))) (omega (arith, c .before .id-size .ensures, c .plain-size .ensures))
+returns c =
+    sized _ (value-text _) (simp length-append (omega (arith, c .before .id-size .ensures, c .plain-size .ensures)))
+    (omega (arith, c .before .id-size .ensures, c .plain-size .ensures))
 
 pub value-row-size-spec : {M : Type 1} → statement M
 value-row-size-spec =

@@ -24,7 +24,9 @@ no-place-requires-2 : tie.Need-no-place-requires-2
 no-place-requires-2 c κs = tt
 
 returns-2 : tie.Need-returns-2
-returns-2 c = no-bracket _ (c .before .before .before .if1 .left) (c .no-place2 .result) (c .before .if2 .taken) (c .no-place2 .ensures)
+returns-2 c =
+    let at-if1 = c .before .before .before in
+    no-bracket _ (at-if1 .if1 .left) (c .no-place2 .result) (c .before .if2 .taken) (c .no-place2 .ensures)
 
 slice-aggregate-take-place-way : tie.Need-slice-aggregate-take-place-way
 slice-aggregate-take-place-way c = sym (length-take-le _ _ (omega arith))
@@ -33,7 +35,10 @@ take-place-way-requires : tie.Need-take-place-way-requires
 take-place-way-requires c κs = tt
 
 returns-3 : tie.Need-returns-3
-returns-3 c = behind-bracket _ (c .before .before .before .before .if1 .left) (c .take-place-way .result) (c .before .before .if2 .left) (c .take-place-way .ensures)
+returns-3 c =
+    let at-if2 = c .before .before in
+    let at-if1 = at-if2 .before .before in
+    behind-bracket _ (at-if1 .if1 .left) (c .take-place-way .result) (at-if2 .if2 .left) (c .take-place-way .ensures)
 
 pub take-element-way-spec : {M : Type 1} → statement M
 take-element-way-spec =

@@ -23,7 +23,9 @@ no-place-requires : tie.Need-no-place-requires
 no-place-requires c κs = tt
 
 returns-2 : tie.Need-returns-2
-returns-2 c = no-brace _ (c .before .before .before .if1 .left) (c .no-place .result) (c .before .if2 .taken) (c .no-place .ensures)
+returns-2 c =
+    let at-if1 = c .before .before .before in
+    no-brace _ (at-if1 .if1 .left) (c .no-place .result) (c .before .if2 .taken) (c .no-place .ensures)
 
 slice-aggregate-take-place-way : tie.Need-slice-aggregate-take-place-way
 slice-aggregate-take-place-way c = sym (length-take-le _ _ (omega arith))
@@ -32,7 +34,10 @@ take-place-way-requires : tie.Need-take-place-way-requires
 take-place-way-requires c κs = tt
 
 returns-3 : tie.Need-returns-3
-returns-3 c = behind-brace _ (c .before .before .before .before .if1 .left) (c .take-place-way .result) (c .before .before .if2 .left) (c .take-place-way .ensures)
+returns-3 c =
+    let at-if2 = c .before .before in
+    let at-if1 = at-if2 .before .before in
+    behind-brace _ (at-if1 .if1 .left) (c .take-place-way .result) (at-if2 .if2 .left) (c .take-place-way .ensures)
 
 pub take-keys-way-spec : {M : Type 1} → statement M
 take-keys-way-spec =

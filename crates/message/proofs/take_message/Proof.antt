@@ -16,13 +16,23 @@ no-edit-requires : tie.Need-no-edit-requires
 no-edit-requires c κs = tt
 
 returns : tie.Need-returns
-returns c = no-message _ (c .before .before .before .before .before .before .take-head .result) _ (not-true _ (c .before .before .before .if1 .taken)) (c .before .before .before .before .before .before .take-head .ensures) refl
+returns c =
+    let at-if1 = c .before .before .before in
+    let at-take-head = at-if1 .before .before .before in
+    no-message _ (at-take-head .take-head .result) _ (not-true _ (at-if1 .if1 .taken)) (at-take-head .take-head .ensures) refl
 
 edit-at-requires : tie.Need-edit-at-requires
-edit-at-requires c κs = c .before .before .before .before .before .before .powers .ensures
+edit-at-requires c κs =
+    let at-powers = c .before .before .before .before .before .before in
+    at-powers .powers .ensures
 
 returns-2 : tie.Need-returns-2
-returns-2 c = a-message _ (c .before .before .before .before .before .before .before .take-head .result) (not-false _ (c .before .before .before .before .if1 .left)) (c .before .before .before .before .before .before .before .take-head .ensures) (c .before .before .edit-at .result) (c .before .before .edit-at .ensures)
+returns-2 c =
+    let at-edit-at = c .before .before in
+    let at-if1 = at-edit-at .before .before in
+    let at-take-head = at-if1 .before .before .before in
+    a-message _ (at-take-head .take-head .result) (not-false _ (at-if1 .if1 .left)) (at-take-head .take-head .ensures)
+    (at-edit-at .edit-at .result) (at-edit-at .edit-at .ensures)
 
 pub take-message-spec : {M : Type 1} → statement M
 take-message-spec =

@@ -15,22 +15,40 @@ no-place-requires : tie.Need-no-place-requires
 no-place-requires c κs = tt
 
 returns : tie.Need-returns
-returns c = refused _ (c .no-place .result) (c .no-place .ensures) (no-way _ (c .before .before .before .take-way .result) (c .before .before .before .take-way .ensures) (not-true _ (c .before .if1 .taken)))
+returns c =
+    let at-take-way = c .before .before .before in
+    refused _ (c .no-place .result) (c .no-place .ensures)
+    (no-way _ (at-take-way .take-way .result) (at-take-way .take-way .ensures) (not-true _ (c .before .if1 .taken)))
 
 no-place-requires-2 : tie.Need-no-place-requires-2
 no-place-requires-2 c κs = tt
 
 returns-2 : tie.Need-returns-2
-returns-2 c = refused _ (c .no-place2 .result) (c .no-place2 .ensures) (bytes-behind _ (c .before .before .before .before .before .take-way .result) (c .before .before .before .before .before .take-way .ensures) (not-false _ (c .before .before .before .if1 .left)) (c .before .if2 .taken))
+returns-2 c =
+    let at-if1 = c .before .before .before in
+    let at-take-way = at-if1 .before .before in
+    refused _ (c .no-place2 .result) (c .no-place2 .ensures)
+    (bytes-behind _ (at-take-way .take-way .result) (at-take-way .take-way .ensures) (not-false _ (at-if1 .if1 .left))
+    (c .before .if2 .taken))
 
 no-place-requires-3 : tie.Need-no-place-requires-3
 no-place-requires-3 c κs = tt
 
 returns-3 : tie.Need-returns-3
-returns-3 c = refused _ (c .no-place3 .result) (c .no-place3 .ensures) (at-caret _ (c .before .before .before .before .before .before .before .take-way .result) (c .before .before .before .before .before .before .before .take-way .ensures) (not-false _ (c .before .before .before .before .before .if1 .left)) (c .before .if3 .taken))
+returns-3 c =
+    let at-if1 = c .before .before .before .before .before in
+    let at-take-way = at-if1 .before .before in
+    refused _ (c .no-place3 .result) (c .no-place3 .ensures)
+    (at-caret _ (at-take-way .take-way .result) (at-take-way .take-way .ensures) (not-false _ (at-if1 .if1 .left))
+    (c .before .if3 .taken))
 
 returns-4 : tie.Need-returns-4
-returns-4 c = a-place _ (c .before .before .before .before .before .before .before .take-way .result) (c .before .before .before .before .before .before .before .take-way .ensures) (not-false _ (c .before .before .before .before .before .if1 .left)) (c .before .before .before .if2 .left) (c .before .if3 .left)
+returns-4 c =
+    let at-if2 = c .before .before .before in
+    let at-if1 = at-if2 .before .before in
+    let at-take-way = at-if1 .before .before in
+    a-place _ (at-take-way .take-way .result) (at-take-way .take-way .ensures) (not-false _ (at-if1 .if1 .left)) (at-if2 .if2 .left)
+    (c .before .if3 .left)
 
 pub take-place-way-spec : {M : Type 1} → statement M
 take-place-way-spec =

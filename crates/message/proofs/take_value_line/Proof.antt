@@ -26,13 +26,26 @@ ended-requires : tie.Need-ended-requires
 ended-requires c κs = tt
 
 returns-2 : tie.Need-returns-2
-returns-2 c = no-feed _ _ (c .before .before .before .before .before .before .take-assigned .result) (not-false _ (c .before .before .before .before .if1 .left)) (c .before .before .before .before .before .before .take-assigned .ensures) (text-none _ (c .before .enum-told .given .1) (c .before .before .before .take-byte .ensures)) _ (c .ended .result) (c .ended .ensures)
+returns-2 c =
+    let at-take-byte = c .before .before .before in
+    let at-if1 = at-take-byte .before in
+    let at-take-assigned = at-if1 .before .before in
+    no-feed _ _ (at-take-assigned .take-assigned .result) (not-false _ (at-if1 .if1 .left))
+    (at-take-assigned .take-assigned .ensures) (text-none _ (c .before .enum-told .given .1) (at-take-byte .take-byte .ensures)) _
+    (c .ended .result) (c .ended .ensures)
 
 ended-requires-2 : tie.Need-ended-requires-2
 ended-requires-2 c κs = tt
 
 returns-3 : tie.Need-returns-3
-returns-3 c = a-value-line _ _ (c .before .before .before .before .before .before .before .take-assigned .result) (not-false _ (c .before .before .before .before .before .if1 .left)) (c .before .before .before .before .before .before .before .take-assigned .ensures) _ (text-took _ (c .before .before .next .given .1) (c .before .before .before .before .take-byte .ensures)) (c .ended2 .result) (c .ended2 .ensures)
+returns-3 c =
+    let at-next = c .before .before in
+    let at-take-byte = at-next .before .before in
+    let at-if1 = at-take-byte .before in
+    let at-take-assigned = at-if1 .before .before in
+    a-value-line _ _ (at-take-assigned .take-assigned .result) (not-false _ (at-if1 .if1 .left))
+    (at-take-assigned .take-assigned .ensures) _ (text-took _ (at-next .next .given .1) (at-take-byte .take-byte .ensures))
+    (c .ended2 .result) (c .ended2 .ensures)
 
 pub take-value-line-spec : {M : Type 1} → statement M
 take-value-line-spec =

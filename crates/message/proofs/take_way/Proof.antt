@@ -23,7 +23,10 @@ no-way-requires : tie.Need-no-way-requires Inv-loop μ-loop
 no-way-requires c κs = tt
 
 returns : tie.Need-returns Inv-loop μ-loop
-returns c = none _ _ (c .no-way .result) (c .no-way .ensures) (no-top _ _ (c .before .before .before .take-key .result) (not-true _ (c .before .if1 .taken)) (c .before .before .before .take-key .ensures))
+returns c =
+    let at-take-key = c .before .before .before in
+    none _ _ (c .no-way .result) (c .no-way .ensures)
+    (no-top _ _ (at-take-key .take-key .result) (not-true _ (c .before .if1 .taken)) (at-take-key .take-key .ensures))
 
 array-write-keys : tie.Need-array-write-keys Inv-loop μ-loop
 array-write-keys c = search needs
@@ -39,13 +42,18 @@ unfolding pad
 loop-holds c = start _ _ (c .before .before .take-key .result) (not-false _ (c .if1 .left)) (c .before .before .take-key .ensures)
 
 take-step-requires : tie.Need-take-step-requires Inv-loop μ-loop
-take-step-requires c κs = c .before .before .before .before .before .before .pre
+take-step-requires c κs =
+    let at-pre = c .before .before .before .before .before .before in
+    at-pre .pre
 
 enum-told : tie.Need-enum-told Inv-loop μ-loop
 enum-told c = search needs
 
 returns-2 : tie.Need-returns-2 Inv-loop μ-loop
-returns-2 c = end _ _ _ _ _ _ (c .before .before .before .before .loop .inv) (step-end _ _ _ (c .enum-told .given .1) (c .before .before .take-step .ensures))
+returns-2 c =
+    let at-take-step = c .before .before in
+    let at-loop = at-take-step .before .before in
+    end _ _ _ _ _ _ (at-loop .loop .inv) (step-end _ _ _ (c .enum-told .given .1) (at-take-step .take-step .ensures))
 
 enum-told-2 : tie.Need-enum-told-2 Inv-loop μ-loop
 enum-told-2 c = search needs
@@ -55,8 +63,10 @@ no-way-requires-2 c κs = tt
 
 returns-3 : tie.Need-returns-3 Inv-loop μ-loop
 returns-3 c =
-    let h = step-none _ _ _ (c .before .enum-told2 .given .1) (c .before .before .before .take-step .ensures) in
-    none _ _ (c .no-way2 .result) (c .no-way2 .ensures) (bad _ _ _ _ _ _ (c .before .before .before .before .before .loop .inv) (h .0) (h .1))
+    let at-take-step = c .before .before .before in
+    let at-loop = at-take-step .before .before in
+    let h = step-none _ _ _ (c .before .enum-told2 .given .1) (at-take-step .take-step .ensures) in
+    none _ _ (c .no-way2 .result) (c .no-way2 .ensures) (bad _ _ _ _ _ _ (at-loop .loop .inv) (h .0) (h .1))
 
 enum-known-x : tie.Need-enum-known-x Inv-loop μ-loop
 enum-known-x c = search needs
@@ -65,13 +75,25 @@ no-way-requires-3 : tie.Need-no-way-requires-3 Inv-loop μ-loop
 no-way-requires-3 c κs = tt
 
 returns-4 : tie.Need-returns-4 Inv-loop μ-loop
-returns-4 c = none _ _ (c .no-way3 .result) (c .no-way3 .ensures) (closed _ _ _ _ _ _ (c .before .before .before .before .before .before .before .loop .inv) _ _ _ _ (step-took _ (c .before .before .before .x .given .1) (c .before .before .before .before .before .take-step .ensures)) (c .before .if2 .taken))
+returns-4 c =
+    let at-x = c .before .before .before in
+    let at-take-step = at-x .before .before in
+    let at-loop = at-take-step .before .before in
+    none _ _ (c .no-way3 .result) (c .no-way3 .ensures)
+    (closed _ _ _ _ _ _ (at-loop .loop .inv) _ _ _ _ (step-took _ (at-x .x .given .1) (at-take-step .take-step .ensures))
+    (c .before .if2 .taken))
 
 no-way-requires-4 : tie.Need-no-way-requires-4 Inv-loop μ-loop
 no-way-requires-4 c κs = tt
 
 returns-5 : tie.Need-returns-5 Inv-loop μ-loop
-returns-5 c = none _ _ (c .no-way4 .result) (c .no-way4 .ensures) (ninth _ _ _ _ _ _ (c .before .before .before .before .before .before .before .before .loop .inv) _ _ _ _ (step-took _ (c .before .before .before .before .x .given .1) (c .before .before .before .before .before .before .take-step .ensures)) (c .before .if3 .taken))
+returns-5 c =
+    let at-x = c .before .before .before .before in
+    let at-take-step = at-x .before .before in
+    let at-loop = at-take-step .before .before in
+    none _ _ (c .no-way4 .result) (c .no-way4 .ensures)
+    (ninth _ _ _ _ _ _ (at-loop .loop .inv) _ _ _ _ (step-took _ (at-x .x .given .1) (at-take-step .take-step .ensures))
+    (c .before .if3 .taken))
 
 mul-keys : tie.Need-mul-keys Inv-loop μ-loop
 mul-keys c = search needs
@@ -113,7 +135,12 @@ loop-less : tie.Need-loop-less Inv-loop μ-loop
 loop-less c = search needs
 
 loop-again : tie.Need-loop-again Inv-loop μ-loop
-loop-again c = more _ _ _ _ _ _ (c .before .before .before .before .before .before .before .loop .inv) _ _ _ _ (step-took _ (c .before .before .before .x .given .1) (c .before .before .before .before .before .take-step .ensures)) (c .before .if2 .left) (c .if3 .left)
+loop-again c =
+    let at-x = c .before .before .before in
+    let at-take-step = at-x .before .before in
+    let at-loop = at-take-step .before .before in
+    more _ _ _ _ _ _ (at-loop .loop .inv) _ _ _ _ (step-took _ (at-x .x .given .1) (at-take-step .take-step .ensures))
+    (c .before .if2 .left) (c .if3 .left)
 
 no-way-requires-5 : tie.Need-no-way-requires-5 Inv-loop μ-loop
 no-way-requires-5 c κs = tt

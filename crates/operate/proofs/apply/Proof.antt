@@ -32,7 +32,14 @@ same-length-4 : tie.Need-same-length-4
 same-length-4 c = search needs
 
 returns : tie.Need-returns
-returns c = applies-taken _ _ _ (c .before .before .before .before .before .before .before .before .before .before .before .before .before .before .before .before .before .before .before .before .before .before .before .before .before .before .args .op) _ (c .before .before .before .before .before .before .before .before .before .before .before .before .before .before .before .before .before .judge .ensures) _ (c .before .before .before .before .before .before .before .before .before .before .take .result) (sym (c .before .before .before .before .before .before .before .before .before .before .before .before .before .before .before .before .is-taken .ensures) ∙ c .before .before .before .before .before .before .before .before .before .before .before .before .before .before .before .if1 .taken) (c .before .before .before .before .before .before .before .before .before .before .take .ensures)
+returns c =
+    let at-take = c .before .before .before .before .before .before .before .before .before .before in
+    let at-if1 = at-take .before .before .before .before .before in
+    let at-is-taken = at-if1 .before in
+    let at-judge = at-is-taken .before in
+    let at-start = at-judge .before .before .before .before .before .before .before .before .before in
+    applies-taken _ _ _ (at-start .args .op) _ (at-judge .judge .ensures) _ (at-take .take .result)
+    (sym (at-is-taken .is-taken .ensures) ∙ at-if1 .if1 .taken) (at-take .take .ensures)
 
 same-length-5 : tie.Need-same-length-5
 same-length-5 c = search needs
@@ -47,7 +54,10 @@ same-length-8 : tie.Need-same-length-8
 same-length-8 c = search needs
 
 returns-2 : tie.Need-returns-2
-returns-2 c = applies-refused _ _ _ (c .before .before .before .before .before .before .before .before .before .before .before .args .op) _ (c .before .before .judge .ensures) (sym (c .before .is-taken .ensures) ∙ c .if1 .left)
+returns-2 c =
+    let at-judge = c .before .before in
+    let at-start = at-judge .before .before .before .before .before .before .before .before .before in
+    applies-refused _ _ _ (at-start .args .op) _ (at-judge .judge .ensures) (sym (c .before .is-taken .ensures) ∙ c .if1 .left)
 
 pub apply-spec : {M : Type 1} → statement M
 apply-spec =

@@ -23,7 +23,11 @@ same-length-4 : tie.Need-same-length-4
 same-length-4 c = search needs
 
 returns : tie.Need-returns
-returns c = carry-out _ _ _ _ (c .before .before .before .before .before .before .before .before .before .before .before .before .before .before .before .before .before .before .before .before .before .before .args .op) (c .before .before .before .before .before .before .before .before .carry-way .ensures)
+returns c =
+    let at-carry-way = c .before .before .before .before .before .before .before .before in
+    let at-start = at-carry-way .before .before .before .before .before
+    .before .before .before .before .before .before .before .before .before in
+    carry-out _ _ _ _ (at-start .args .op) (at-carry-way .carry-way .ensures)
 
 pub carry-out-spec : {M : Type 1} → statement M
 carry-out-spec =

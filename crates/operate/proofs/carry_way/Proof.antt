@@ -8,13 +8,17 @@ use Rattle.operate.proofs.carry_way.Statement.{statement}
 use Rattle.operate.proofs.carry_way.Tie as tie
 
 returns : tie.Need-returns
-returns c = carry-long _ _ (c .before .before .before .before .before .before .args .o) _ _ (omega arith)
+returns c =
+    let at-start = c .before .before .before .before .before .before in
+    carry-long _ _ (at-start .args .o) _ _ (omega arith)
 
 mul-end : tie.Need-mul-end
 mul-end c = omega arith
 
 returns-2 : tie.Need-returns-2
-returns-2 c = carry-cut _ _ (c .before .before .before .before .before .before .before .args .o) _ _ (omega arith)
+returns-2 c =
+    let at-start = c .before .before .before .before .before .before .before in
+    carry-cut _ _ (at-start .args .o) _ _ (omega arith)
 
 slice-aggregate-descend : tie.Need-slice-aggregate-descend
 slice-aggregate-descend c = sym (length-take-le _ _ (omega arith))
@@ -35,7 +39,11 @@ same-length-4 : tie.Need-same-length-4
 same-length-4 c = search needs
 
 returns-3 : tie.Need-returns-3
-returns-3 c = carry-way _ _ _ _ (c .before .before .before .before .before .before .before .before .before .before .before .before .before .before .before .before .before .before .before .before .before .before .args .o) _ _ _ _ refl (c .before .before .before .before .before .before .before .before .before .descend .ensures)
+returns-3 c =
+    let at-descend = c .before .before .before .before .before .before .before .before .before in
+    let at-start = at-descend .before .before .before .before .before
+    .before .before .before .before .before .before .before .before in
+    carry-way _ _ _ _ (at-start .args .o) _ _ _ _ refl (at-descend .descend .ensures)
 
 pub carry-way-spec : {M : Type 1} → statement M
 carry-way-spec =

@@ -12,19 +12,27 @@ returns : tie.Need-returns
 returns c = no-places _ _ (omega arith)
 
 add-if2 : tie.Need-add-if2
-add-if2 c = omega (arith, c .before .before .before .before .before .pre .marks, c .before .before .before .before .before .pre .more-marks)
+add-if2 c =
+    let at-pre = c .before .before .before .before .before in
+    omega (arith, at-pre .pre .marks, at-pre .pre .more-marks)
 
 add-if2-2 : tie.Need-add-if2-2
-add-if2-2 c = omega (arith, c .before .before .before .before .before .before .pre .less-marks)
+add-if2-2 c =
+    let at-pre = c .before .before .before .before .before .before in
+    omega (arith, at-pre .pre .less-marks)
 
 returns-2 : tie.Need-returns-2
 returns-2 c = no-marks _ _ (omega arith) (omega arith)
 
 add-result : tie.Need-add-result
-add-result c = omega (arith, c .before .before .before .before .before .before .before .before .before .pre .values, c .before .before .before .before .before .before .before .before .before .pre .more-values)
+add-result c =
+    let at-pre = c .before .before .before .before .before .before .before .before .before in
+    omega (arith, at-pre .pre .values, at-pre .pre .more-values)
 
 add-result-2 : tie.Need-add-result-2
-add-result-2 c = omega (arith, c .before .before .before .before .before .before .before .before .before .before .pre .less-values)
+add-result-2 c =
+    let at-pre = c .before .before .before .before .before .before .before .before .before .before in
+    omega (arith, at-pre .pre .less-values)
 
 returns-3 : tie.Need-returns-3
 returns-3 c = the-values _ _ (omega arith) (omega arith)

@@ -29,7 +29,9 @@ weigh-requires : tie.Need-weigh-requires
 weigh-requires c κs = search needs
 
 returns-4 : tie.Need-returns-4
-returns-4 c = judge-eight _ _ _ _ _ _ _ _ _ _ _ refl (c .before .before .weigh .result) (c .before .before .weigh .ensures) (not-true _ (c .if4 .taken))
+returns-4 c =
+    let at-weigh = c .before .before in
+    judge-eight _ _ _ _ _ _ _ _ _ _ _ refl (at-weigh .weigh .result) (at-weigh .weigh .ensures) (not-true _ (c .if4 .taken))
 
 sub-goes-down : tie.Need-sub-goes-down
 sub-goes-down c = omega arith
@@ -53,25 +55,42 @@ goes-down-requires : tie.Need-goes-down-requires
 goes-down-requires c κs = search needs
 
 returns-5 : tie.Need-returns-5
-returns-5 c = judge-nine _ _ _ _ _ _ _ _ _ _ _ refl (c .before .before .before .before .before .before .weigh .result) (c .before .before .before .before .before .before .weigh .ensures) _ _ refl refl (not-false _ (c .before .before .before .before .if4 .left)) (sym (c .before .goes-down .ensures) ∙ c .if5 .taken)
+returns-5 c =
+    let at-if4 = c .before .before .before .before in
+    let at-weigh = at-if4 .before .before in
+    judge-nine _ _ _ _ _ _ _ _ _ _ _ refl (at-weigh .weigh .result) (at-weigh .weigh .ensures) _ _ refl refl
+    (not-false _ (at-if4 .if4 .left)) (sym (c .before .goes-down .ensures) ∙ c .if5 .taken)
 
 is-small-requires : tie.Need-is-small-requires
 is-small-requires c κs = search needs
 
 returns-6 : tie.Need-returns-6
-returns-6 c = judge-large _ _ _ _ _ _ _ _ _ _ _ refl (c .before .before .before .before .before .before .before .before .weigh .result) (c .before .before .before .before .before .before .before .before .weigh .ensures) (no (Small _ _) _ (c .before .is-small .result) (not-true _ (c .if6 .taken)) (c .before .is-small .ensures)) _
+returns-6 c =
+    let at-weigh = c .before .before .before .before .before .before .before .before in
+    judge-large _ _ _ _ _ _ _ _ _ _ _ refl (at-weigh .weigh .result) (at-weigh .weigh .ensures)
+    (no (Small _ _) _ (c .before .is-small .result) (not-true _ (c .if6 .taken)) (c .before .is-small .ensures)) _
 
 has-room-requires : tie.Need-has-room-requires
 has-room-requires c κs = yes (Small _ _) _ (c .before .is-small .result) (not-false _ (c .if6 .left)) (c .before .is-small .ensures)
 
 returns-7 : tie.Need-returns-7
 returns-7 c =
-    judge-taken _ _ _ _ _ _ _ _ _ _ _ refl (c .before .before .before .before .before .before .before .before .before .before .weigh .result) (c .before .before .before .before .before .before .before .before .before .before .weigh .ensures) _ _ refl refl (not-false _ (c .before .before .before .before .before .before .before .before .if4 .left)) (sym (c .before .before .before .before .before .goes-down .ensures) ∙ c .before .before .before .before .if5 .left)
+    let at-if5 = c .before .before .before .before in
+    let at-goes-down = at-if5 .before in
+    let at-if4 = at-goes-down .before .before .before in
+    let at-weigh = at-if4 .before .before in
+    judge-taken _ _ _ _ _ _ _ _ _ _ _ refl (at-weigh .weigh .result) (at-weigh .weigh .ensures) _ _ refl refl
+    (not-false _ (at-if4 .if4 .left)) (sym (at-goes-down .goes-down .ensures) ∙ at-if5 .if5 .left)
     (sym (c .before .has-room .ensures) ∙ c .if7 .taken)
 
 returns-8 : tie.Need-returns-8
 returns-8 c =
-    judge-ten _ _ _ _ _ _ _ _ _ _ _ refl (c .before .before .before .before .before .before .before .before .before .before .weigh .result) (c .before .before .before .before .before .before .before .before .before .before .weigh .ensures) _ _ refl refl (not-false _ (c .before .before .before .before .before .before .before .before .if4 .left)) (sym (c .before .before .before .before .before .goes-down .ensures) ∙ c .before .before .before .before .if5 .left)
+    let at-if5 = c .before .before .before .before in
+    let at-goes-down = at-if5 .before in
+    let at-if4 = at-goes-down .before .before .before in
+    let at-weigh = at-if4 .before .before in
+    judge-ten _ _ _ _ _ _ _ _ _ _ _ refl (at-weigh .weigh .result) (at-weigh .weigh .ensures) _ _ refl refl
+    (not-false _ (at-if4 .if4 .left)) (sym (at-goes-down .goes-down .ensures) ∙ at-if5 .if5 .left)
     (sym (c .before .has-room .ensures) ∙ c .if7 .left)
 
 pub judge-way-spec : {M : Type 1} → statement M

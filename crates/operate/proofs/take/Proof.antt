@@ -27,7 +27,10 @@ same-length-4 : tie.Need-same-length-4
 same-length-4 c = search needs
 
 returns : tie.Need-returns
-returns c = takes-on _ _ _ (c .before .before .before .before .before .before .before .before .before .before .before .before .before .before .before .before .before .before .args .op) _ _ _ (c .before .before .before .before .before .before .before .before .before .carry-out .ensures) (c .raise .ensures)
+returns c =
+    let at-carry-out = c .before .before .before .before .before .before .before .before .before in
+    let at-start = at-carry-out .before .before .before .before .before .before .before .before .before in
+    takes-on _ _ _ (at-start .args .op) _ _ _ (at-carry-out .carry-out .ensures) (c .raise .ensures)
 
 pub take-spec : {M : Type 1} → statement M
 take-spec =

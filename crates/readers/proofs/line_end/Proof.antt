@@ -20,7 +20,14 @@ shared-slice-read-if1 : tie.Need-shared-slice-read-if1 Inv-loop μ-loop
 shared-slice-read-if1 c = search needs
 
 returns : tie.Need-returns Inv-loop μ-loop
-returns c = (c .before .before .before .loop .inv .from, c .before .before .before .loop .inv .most, at-feed _ _ _ (c .before .before .before .loop .inv) (c .before .before .loop-test .taken) (c .if1 .taken))
+returns c =
+    let at-loop-test = c .before .before in
+    let at-loop = at-loop-test .before in (
+      at-loop .loop .inv .from,
+      at-loop .loop .inv .most,
+      at-feed _ _ _ (at-loop .loop .inv) (at-loop-test .loop-test .taken)
+          (c .if1 .taken),
+    )
 
 add-e : tie.Need-add-e Inv-loop μ-loop
 add-e c = search needs
@@ -29,7 +36,10 @@ loop-less : tie.Need-loop-less Inv-loop μ-loop
 loop-less c = search needs
 
 loop-again : tie.Need-loop-again Inv-loop μ-loop
-loop-again c = more _ _ _ (c .before .before .before .loop .inv) (c .before .before .loop-test .taken) (c .if1 .left)
+loop-again c =
+    let at-loop-test = c .before .before in
+    let at-loop = at-loop-test .before in
+    more _ _ _ (at-loop .loop .inv) (at-loop-test .loop-test .taken) (c .if1 .left)
 
 returns-2 : tie.Need-returns-2 Inv-loop μ-loop
 returns-2 c = (c .before .loop .inv .from, c .before .loop .inv .most, at-end _ _ _ (c .before .loop .inv) (c .loop-test .left))

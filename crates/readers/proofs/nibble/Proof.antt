@@ -14,7 +14,10 @@ wide-requires : tie.Need-wide-requires
 wide-requires c κs = search needs
 
 returns-2 : tie.Need-returns-2
-returns-2 c = subst (ReadsDigit (c .before .before .before .args .c)) (sym (c .wide .ensures)) (decimal-digit _ (c .before .before .if1 .left) (c .before .if2 .taken))
+returns-2 c =
+    let at-if1 = c .before .before in
+    let at-start = at-if1 .before in
+    subst (ReadsDigit (at-start .args .c)) (sym (c .wide .ensures)) (decimal-digit _ (at-if1 .if1 .left) (c .before .if2 .taken))
 
 returns-3 : tie.Need-returns-3
 returns-3 c = between _ (c .before .if2 .left) (c .if3 .taken)
@@ -26,7 +29,11 @@ add-result : tie.Need-add-result
 add-result c = search needs
 
 returns-4 : tie.Need-returns-4
-returns-4 c = subst (ReadsDigit (c .before .before .before .before .before .args .c)) (ap (λ n. Prim.Native.Nat._+_ n 10) (sym (c .wide2 .ensures))) (letter-digit _ (c .before .before .if3 .left) (c .before .if4 .taken))
+returns-4 c =
+    let at-if3 = c .before .before in
+    let at-start = at-if3 .before .before .before in
+    subst (ReadsDigit (at-start .args .c)) (ap (λ n. Prim.Native.Nat._+_ n 10) (sym (c .wide2 .ensures)))
+    (letter-digit _ (at-if3 .if3 .left) (c .before .if4 .taken))
 
 returns-5 : tie.Need-returns-5
 returns-5 c = above-letters _ (c .if4 .left)

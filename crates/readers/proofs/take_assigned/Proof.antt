@@ -27,7 +27,10 @@ a-value-requires c κs = search needs
 
 returns-2 : tie.Need-returns-2
 unfolding givenOf valueWords
-returns-2 c = answered assigned (λ v. v) _ _ (c .a-value .result) _ _ (c .a-value .ensures) emptyMap (is-map _ _ (c .before .before .before .if1 .left) (c .before .if2 .taken)) refl refl
+returns-2 c =
+    let at-if1 = c .before .before .before in
+    answered assigned (λ v. v) _ _ (c .a-value .result) _ _ (c .a-value .ensures) emptyMap
+    (is-map _ _ (at-if1 .if1 .left) (c .before .if2 .taken)) refl refl
 
 add-a-value-2 : tie.Need-add-a-value-2
 add-a-value-2 c = search needs
@@ -37,13 +40,19 @@ a-value-requires-2 c κs = search needs
 
 returns-3 : tie.Need-returns-3
 unfolding givenOf valueWords
-returns-3 c = answered assigned (λ v. v) _ _ (c .a-value2 .result) _ _ (c .a-value2 .ensures) emptyList (is-list _ _ (c .before .before .before .before .if1 .left) (c .before .if3 .taken)) refl refl
+returns-3 c =
+    let at-if1 = c .before .before .before .before in
+    answered assigned (λ v. v) _ _ (c .a-value2 .result) _ _ (c .a-value2 .ensures) emptyList
+    (is-list _ _ (at-if1 .if1 .left) (c .before .if3 .taken)) refl refl
 
 take-plain-requires : tie.Need-take-plain-requires
 take-plain-requires c κs = search needs
 
 returns-4 : tie.Need-returns-4
-returns-4 c = plain-given _ _ (c .before .before .before .before .if1 .left) (c .before .before .if2 .left) (c .before .if3 .left) (c .take-plain .result) (c .take-plain .ensures)
+returns-4 c =
+    let at-if2 = c .before .before in
+    let at-if1 = at-if2 .before .before in
+    plain-given _ _ (at-if1 .if1 .left) (at-if2 .if2 .left) (c .before .if3 .left) (c .take-plain .result) (c .take-plain .ensures)
 
 pub take-assigned-spec : {M : Type 1} → statement M
 take-assigned-spec =

@@ -22,7 +22,11 @@ take-decimal-requires : tie.Need-take-decimal-requires
 take-decimal-requires c κs = search needs
 
 returns-2 : tie.Need-returns-2
-returns-2 c = behind-comma _ _ _ (text-took _ (c .before .before .n .given .1) (c .before .before .before .before .take-byte .ensures)) (c .take-decimal .result) (c .take-decimal .ensures)
+returns-2 c =
+    let at-n = c .before .before in
+    let at-take-byte = at-n .before .before in
+    behind-comma _ _ _ (text-took _ (at-n .n .given .1) (at-take-byte .take-byte .ensures)) (c .take-decimal .result)
+    (c .take-decimal .ensures)
 
 pub take-comma-spec : {M : Type 1} → statement M
 take-comma-spec =

@@ -1,4 +1,5 @@
--- `readers::take_counters` meets its contract. The loop's invariant, `State`: the first i counters stand from a to n, and the others would follow there.
+-- `readers::take_counters` meets its contract. The loop's invariant, `State`: the first i counters stand from a to n, and the others
+-- would follow there.
 -- Assumes nothing.
 use Prim.Native.Nat.{_-_}
 use native.Mathlib.Omega.{arith}
@@ -29,13 +30,17 @@ returns : tie.Need-returns Inv-loop μ-loop
 returns c = none _ _ (number-none _ (c .enum-told .given .1) (c .before .before .take-decimal .ensures))
 
 cast-v : tie.Need-cast-v Inv-loop μ-loop
-cast-v c = omega (arith, number-took _ (c .before .first .given .1) (c .before .before .before .take-decimal .ensures) .valid)
+cast-v c =
+    let at-take-decimal = c .before .before .before in
+    omega (arith, number-took _ (c .before .first .given .1) (at-take-decimal .take-decimal .ensures) .valid)
 
 array-write-v : tie.Need-array-write-v Inv-loop μ-loop
 array-write-v c = search needs
 
 loop-holds : tie.Need-loop-holds Inv-loop μ-loop
-loop-holds c = start _ _ _ _ (replicate 8 0) refl (number-took _ (c .before .first .given .1) (c .before .before .before .take-decimal .ensures))
+loop-holds c =
+    let at-take-decimal = c .before .before .before in
+    start _ _ _ _ (replicate 8 0) refl (number-took _ (c .before .first .given .1) (at-take-decimal .take-decimal .ensures))
 
 take-comma-requires : tie.Need-take-comma-requires Inv-loop μ-loop
 take-comma-requires c κs = search needs
@@ -47,10 +52,17 @@ enum-told-2 : tie.Need-enum-told-2 Inv-loop μ-loop
 enum-told-2 c = search needs
 
 returns-2 : tie.Need-returns-2 Inv-loop μ-loop
-returns-2 c = refuse _ _ _ _ _ (c .before .before .before .before .loop .inv) (c .before .before .before .loop-test .taken) (number-none _ (c .enum-told2 .given .1) (c .before .before .take-comma .ensures))
+returns-2 c =
+    let at-take-comma = c .before .before in
+    let at-loop-test = at-take-comma .before in
+    let at-loop = at-loop-test .before in
+    refuse _ _ _ _ _ (at-loop .loop .inv) (at-loop-test .loop-test .taken)
+    (number-none _ (c .enum-told2 .given .1) (at-take-comma .take-comma .ensures))
 
 cast-v-2 : tie.Need-cast-v-2 Inv-loop μ-loop
-cast-v-2 c = omega (arith, number-took _ (c .before .x .given .1) (c .before .before .before .take-comma .ensures) .valid)
+cast-v-2 c =
+    let at-take-comma = c .before .before .before in
+    omega (arith, number-took _ (c .before .x .given .1) (at-take-comma .take-comma .ensures) .valid)
 
 mul-v : tie.Need-mul-v Inv-loop μ-loop
 mul-v c = search needs
@@ -65,7 +77,12 @@ loop-less : tie.Need-loop-less Inv-loop μ-loop
 loop-less c = search needs
 
 loop-again : tie.Need-loop-again Inv-loop μ-loop
-loop-again c = step _ _ _ _ _ (c .before .before .before .before .before .loop .inv) (c .before .before .before .before .loop-test .taken) _ _ (number-took _ (c .before .x .given .1) (c .before .before .before .take-comma .ensures))
+loop-again c =
+    let at-take-comma = c .before .before .before in
+    let at-loop-test = at-take-comma .before in
+    let at-loop = at-loop-test .before in
+    step _ _ _ _ _ (at-loop .loop .inv) (at-loop-test .loop-test .taken) _ _
+    (number-took _ (c .before .x .given .1) (at-take-comma .take-comma .ensures))
 
 returns-3 : tie.Need-returns-3 Inv-loop μ-loop
 returns-3 c = done _ _ _ _ _ (c .before .loop .inv) (c .loop-test .left)

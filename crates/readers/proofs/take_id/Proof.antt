@@ -30,7 +30,12 @@ enum-told-2 : tie.Need-enum-told-2
 enum-told-2 c = search needs
 
 returns-2 : tie.Need-returns-2
-returns-2 c = no-point _ _ _ _ (number-took _ (c .before .before .before .before .c .given .1) (c .before .before .before .before .before .before .take-between .ensures)) (text-none _ (c .enum-told2 .given .1) (c .before .before .take-byte .ensures))
+returns-2 c =
+    let at-take-byte = c .before .before in
+    let at-c = at-take-byte .before .before in
+    let at-take-between = at-c .before .before in
+    no-point _ _ _ _ (number-took _ (at-c .c .given .1) (at-take-between .take-between .ensures))
+    (text-none _ (c .enum-told2 .given .1) (at-take-byte .take-byte .ensures))
 
 take-between-requires-2 : tie.Need-take-between-requires-2
 take-between-requires-2 c κs = search needs
@@ -42,19 +47,49 @@ enum-told-3 : tie.Need-enum-told-3
 enum-told-3 c = search needs
 
 returns-3 : tie.Need-returns-3
-returns-3 c = no-terminal _ _ _ _ (number-took _ (c .before .before .before .before .before .before .before .before .c .given .1) (c .before .before .before .before .before .before .before .before .before .before .take-between .ensures)) _ (text-took _ (c .before .before .before .before .m .given .1) (c .before .before .before .before .before .before .take-byte .ensures)) (number-none _ (c .enum-told3 .given .1) (c .before .before .take-between2 .ensures))
+returns-3 c =
+    let at-take-between2 = c .before .before in
+    let at-m = at-take-between2 .before .before in
+    let at-take-byte = at-m .before .before in
+    let at-c = at-take-byte .before .before in
+    let at-take-between = at-c .before .before in
+    no-terminal _ _ _ _ (number-took _ (at-c .c .given .1) (at-take-between .take-between .ensures)) _
+    (text-took _ (at-m .m .given .1) (at-take-byte .take-byte .ensures))
+    (number-none _ (c .enum-told3 .given .1) (at-take-between2 .take-between2 .ensures))
 
 mul-t12 : tie.Need-mul-t12
-mul-t12 c = omega (arith, number-took _ (c .before .before .before .before .before .before .before .before .before .c .given .1) (c .before .before .before .before .before .before .before .before .before .before .before .take-between .ensures) .valid)
+mul-t12 c =
+    let at-c = c .before .before .before .before .before .before .before .before .before in
+    let at-take-between = at-c .before .before in
+    omega (arith, number-took _ (at-c .c .given .1) (at-take-between .take-between .ensures) .valid)
 
 sub-t13 : tie.Need-sub-t13
-sub-t13 c = omega (arith, number-took _ (c .before .r .given .1) (c .before .before .before .take-between2 .ensures) .valid)
+sub-t13 c =
+    let at-take-between2 = c .before .before .before in
+    omega (arith, number-took _ (c .before .r .given .1) (at-take-between2 .take-between2 .ensures) .valid)
 
 add-t14 : tie.Need-add-t14
-add-t14 c = omega (arith, number-took _ (c .before .before .before .before .before .before .before .before .before .c .given .1) (c .before .before .before .before .before .before .before .before .before .before .before .take-between .ensures) .valid, number-took _ (c .before .r .given .1) (c .before .before .before .take-between2 .ensures) .valid)
+add-t14 c =
+    let at-take-between2 = c .before .before .before in
+    let at-c = at-take-between2 .before .before .before .before .before .before in
+    let at-take-between = at-c .before .before in
+    omega (
+      arith,
+      number-took _ (at-c .c .given .1) (at-take-between .take-between .ensures) .valid,
+      number-took _
+          (c .before .r .given .1) (at-take-between2 .take-between2 .ensures) .valid,
+    )
 
 returns-4 : tie.Need-returns-4
-returns-4 c = found _ _ _ _ (number-took _ (c .before .before .before .before .before .before .before .before .before .c .given .1) (c .before .before .before .before .before .before .before .before .before .before .before .take-between .ensures)) _ (text-took _ (c .before .before .before .before .before .m .given .1) (c .before .before .before .before .before .before .before .take-byte .ensures)) _ _ (number-took _ (c .before .r .given .1) (c .before .before .before .take-between2 .ensures))
+returns-4 c =
+    let at-take-between2 = c .before .before .before in
+    let at-m = at-take-between2 .before .before in
+    let at-take-byte = at-m .before .before in
+    let at-c = at-take-byte .before .before in
+    let at-take-between = at-c .before .before in
+    found _ _ _ _ (number-took _ (at-c .c .given .1) (at-take-between .take-between .ensures)) _
+    (text-took _ (at-m .m .given .1) (at-take-byte .take-byte .ensures)) _ _
+    (number-took _ (c .before .r .given .1) (at-take-between2 .take-between2 .ensures))
 
 pub take-id-spec : {M : Type 1} → statement M
 take-id-spec =

@@ -27,10 +27,20 @@ enum-told-2 : tie.Need-enum-told-2
 enum-told-2 c = search needs
 
 returns : tie.Need-returns
-returns c = no-number _ _ (text-none _ (c .before .before .before .enum-told .given .1) (c .before .before .before .before .before .take-byte .ensures)) (number-none _ (c .enum-told2 .given .1) (c .before .before .take-decimal .ensures))
+returns c =
+    let at-take-decimal = c .before .before in
+    let at-enum-told = at-take-decimal .before in
+    let at-take-byte = at-enum-told .before .before in
+    no-number _ _ (text-none _ (at-enum-told .enum-told .given .1) (at-take-byte .take-byte .ensures))
+    (number-none _ (c .enum-told2 .given .1) (at-take-decimal .take-decimal .ensures))
 
 returns-2 : tie.Need-returns-2
-returns-2 c = nonNeg _ _ (text-none _ (c .before .before .before .before .enum-told .given .1) (c .before .before .before .before .before .before .take-byte .ensures)) _ _ (number-took _ (c .before .value .given .1) (c .before .before .before .take-decimal .ensures))
+returns-2 c =
+    let at-take-decimal = c .before .before .before in
+    let at-enum-told = at-take-decimal .before in
+    let at-take-byte = at-enum-told .before .before in
+    nonNeg _ _ (text-none _ (at-enum-told .enum-told .given .1) (at-take-byte .take-byte .ensures)) _ _
+    (number-took _ (c .before .value .given .1) (at-take-decimal .take-decimal .ensures))
 
 take-between-requires : tie.Need-take-between-requires
 take-between-requires c κs = search needs
@@ -42,13 +52,25 @@ enum-told-3 : tie.Need-enum-told-3
 enum-told-3 c = search needs
 
 returns-3 : tie.Need-returns-3
-returns-3 c = no-magnitude _ _ _ (text-took _ (c .before .before .before .before .n .given .1) (c .before .before .before .before .before .before .take-byte .ensures)) (number-none _ (c .enum-told3 .given .1) (c .before .before .take-between .ensures))
+returns-3 c =
+    let at-take-between = c .before .before in
+    let at-n = at-take-between .before .before in
+    let at-take-byte = at-n .before .before in
+    no-magnitude _ _ _ (text-took _ (at-n .n .given .1) (at-take-byte .take-byte .ensures))
+    (number-none _ (c .enum-told3 .given .1) (at-take-between .take-between .ensures))
 
 sub-t12 : tie.Need-sub-t12
-sub-t12 c = omega (arith, number-took _ (c .before .value2 .given .1) (c .before .before .before .take-between .ensures) .valid)
+sub-t12 c =
+    let at-take-between = c .before .before .before in
+    omega (arith, number-took _ (c .before .value2 .given .1) (at-take-between .take-between .ensures) .valid)
 
 returns-4 : tie.Need-returns-4
-returns-4 c = neg _ _ _ (text-took _ (c .before .before .before .before .before .n .given .1) (c .before .before .before .before .before .before .before .take-byte .ensures)) _ _ (number-took _ (c .before .value2 .given .1) (c .before .before .before .take-between .ensures))
+returns-4 c =
+    let at-take-between = c .before .before .before in
+    let at-n = at-take-between .before .before in
+    let at-take-byte = at-n .before .before in
+    neg _ _ _ (text-took _ (at-n .n .given .1) (at-take-byte .take-byte .ensures)) _ _
+    (number-took _ (c .before .value2 .given .1) (at-take-between .take-between .ensures))
 
 pub take-integer-spec : {M : Type 1} → statement M
 take-integer-spec =

@@ -32,13 +32,30 @@ no-value-requires : tie.Need-no-value-requires
 no-value-requires c κs = search needs
 
 returns : tie.Need-returns
-returns c = nonNeg-value _ _ _ _ _ (c .a-value .ensures) (subst (ReadsInteger (now (c .before .before .before .before .before .before .args .s)) (c .before .before .before .before .before .before .args .a)) (c .before .before .value .given .1) (c .before .before .before .before .take-integer .ensures))
+returns c =
+    let at-value = c .before .before in
+    let at-take-integer = at-value .before .before in
+    let at-start = at-take-integer .before .before in
+    nonNeg-value _ _ _ _ _ (c .a-value .ensures)
+    (subst (ReadsInteger (now (at-start .args .s)) (at-start .args .a)) (at-value .value .given .1)
+    (at-take-integer .take-integer .ensures))
 
 returns-2 : tie.Need-returns-2
-returns-2 c = neg-value _ _ _ _ _ (c .a-value2 .ensures) (subst (ReadsInteger (now (c .before .before .before .before .before .before .args .s)) (c .before .before .before .before .before .before .args .a)) (c .before .before .value2 .given .1) (c .before .before .before .before .take-integer .ensures))
+returns-2 c =
+    let at-value2 = c .before .before in
+    let at-take-integer = at-value2 .before .before in
+    let at-start = at-take-integer .before .before in
+    neg-value _ _ _ _ _ (c .a-value2 .ensures)
+    (subst (ReadsInteger (now (at-start .args .s)) (at-start .args .a)) (at-value2 .value2 .given .1)
+    (at-take-integer .take-integer .ensures))
 
 returns-3 : tie.Need-returns-3
-returns-3 c = refusing integers (λ z. plain (integer z)) _ _ (c .no-value .result) (c .no-value .ensures) (subst (ReadsInteger (now (c .before .before .before .before .before .args .s)) (c .before .before .before .before .before .args .a)) (c .before .enum-told .given .1) (c .before .before .before .take-integer .ensures))
+returns-3 c =
+    let at-take-integer = c .before .before .before in
+    let at-start = at-take-integer .before .before in
+    refusing integers (λ z. plain (integer z)) _ _ (c .no-value .result) (c .no-value .ensures)
+    (subst (ReadsInteger (now (at-start .args .s)) (at-start .args .a)) (c .before .enum-told .given .1)
+    (at-take-integer .take-integer .ensures))
 
 pub take-number-spec : {M : Type 1} → statement M
 take-number-spec =

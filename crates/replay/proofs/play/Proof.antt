@@ -36,10 +36,14 @@ hold-call-requires : tie.Need-hold-call-requires Inv-loop μ-loop
 hold-call-requires c κs = c .before .before .loop .inv .1
 
 slice-reshare-prefix-answer : tie.Need-slice-reshare-prefix-answer Inv-loop μ-loop
-slice-reshare-prefix-answer c = omega (arith, c .before .before .before .before .before .before .before .before .hold-call .ensures .high)
+slice-reshare-prefix-answer c =
+    let at-hold-call = c .before .before .before .before .before .before .before .before in
+    omega (arith, at-hold-call .hold-call .ensures .high)
 
 slice-aggregate-answer : tie.Need-slice-aggregate-answer Inv-loop μ-loop
-slice-aggregate-answer c = sym (length-take-le _ _ (c .before .before .before .before .before .before .before .before .before .hold-call .ensures .high))
+slice-aggregate-answer c =
+    let at-hold-call = c .before .before .before .before .before .before .before .before .before in
+    sym (length-take-le _ _ (at-hold-call .hold-call .ensures .high))
 
 answer-requires : tie.Need-answer-requires Inv-loop μ-loop
 answer-requires c κs = tt
@@ -48,22 +52,73 @@ goes-on-requires : tie.Need-goes-on-requires Inv-loop μ-loop
 goes-on-requires c κs = tt
 
 sub-turns : tie.Need-sub-turns Inv-loop μ-loop
-sub-turns c = omega (arith, c .before .before .before .before .before .before .before .before .before .before .before .before .before .before .before .before .before .before .before .before .before .before .before .before .before .loop-test .taken)
+sub-turns c =
+    let at-loop-test = c .before .before .before .before .before .before .before .before .before .before .before
+    .before .before .before .before .before .before .before .before .before .before .before .before .before .before in
+    omega (arith, at-loop-test .loop-test .taken)
 
 loop-less : tie.Need-loop-less Inv-loop μ-loop
-loop-less c = omega (arith, c .before .before .before .before .before .before .before .before .before .before .before .before .before .before .before .before .before .before .before .before .before .before .before .before .before .loop-test .taken)
+loop-less c =
+    let at-loop-test = c .before .before .before .before .before .before .before .before .before .before .before
+    .before .before .before .before .before .before .before .before .before .before .before .before .before .before in
+    omega (arith, at-loop-test .loop-test .taken)
 
 loop-again : tie.Need-loop-again Inv-loop μ-loop
-loop-again c = ((omega (arith, c .before .before .before .before .before .before .before .before .before .before .before .before .before .before .before .before .before .before .before .before .before .before .before .before .before .before .loop .inv .0 .0, c .before .before .before .before .before .before .before .before .before .before .before .before .before .before .before .before .before .before .before .before .before .before .before .hold-call .kept, c .before .before .before .before .before .before .before .before .before .before .before .before .before .answer .kept), omega (arith, c .before .before .before .before .before .before .before .before .before .before .before .before .before .before .before .before .before .before .before .before .before .before .before .before .before .before .loop .inv .0 .1, c .before .before .before .before .before .before .before .before .before .before .before .before .before .before .before .before .before .before .before .before .before .before .before .hold-call .kept, c .before .before .before .before .before .before .before .before .before .before .before .before .before .answer .kept), omega (arith, c .before .before .before .before .before .before .before .before .before .before .before .before .before .before .before .before .before .before .before .before .before .before .before .before .before .before .loop .inv .0 .2, c .before .before .before .before .before .before .before .before .before .before .before .before .before .before .before .before .before .before .before .before .before .before .before .hold-call .kept, c .before .before .before .before .before .before .before .before .before .before .before .before .before .answer .kept), omega (arith, c .before .before .before .before .before .before .before .before .before .before .before .before .before .before .before .before .before .before .before .before .before .before .before .before .before .before .loop .inv .0 .3, c .before .before .before .before .before .before .before .before .before .before .before .before .before .before .before .before .before .before .before .before .before .before .before .hold-call .kept, c .before .before .before .before .before .before .before .before .before .before .before .before .before .answer .kept), omega (arith, c .before .before .before .before .before .before .before .before .before .before .before .before .before .before .before .before .before .before .before .before .before .before .before .before .before .before .loop .inv .0 .4, c .before .before .before .before .before .before .before .before .before .before .before .before .before .before .before .before .before .before .before .before .before .before .before .hold-call .kept, c .before .before .before .before .before .before .before .before .before .before .before .before .before .answer .kept), omega (arith, c .before .before .before .before .before .before .before .before .before .before .before .before .before .before .before .before .before .before .before .before .before .before .before .before .before .before .loop .inv .0 .5, c .before .before .before .before .before .before .before .before .before .before .before .before .before .before .before .before .before .before .before .before .before .before .before .hold-call .kept, c .before .before .before .before .before .before .before .before .before .before .before .before .before .answer .kept)), record { low = c .before .goes-on .ensures (c .if1 .taken) .1; high = c .before .before .before .before .before .before .before .before .before .before .before .before .before .before .before .before .before .before .before .before .before .before .before .hold-call .ensures .high; begun = λ e. absurd (false≢true e) })
+loop-again c =
+    let at-answer = c .before .before .before .before .before .before .before .before .before .before .before .before .before in
+    let at-hold-call = at-answer .before .before .before .before .before .before .before .before .before .before in
+    let at-loop = at-hold-call .before .before .before in (
+      (
+        omega (arith, at-loop .loop .inv .0 .0, at-hold-call .hold-call .kept, at-answer .answer .kept),
+        omega
+            (arith, at-loop .loop .inv .0 .1, at-hold-call .hold-call .kept, at-answer .answer .kept),
+        omega
+            (arith, at-loop .loop .inv .0 .2, at-hold-call .hold-call .kept, at-answer .answer .kept),
+        omega
+            (arith, at-loop .loop .inv .0 .3, at-hold-call .hold-call .kept, at-answer .answer .kept),
+        omega
+            (arith, at-loop .loop .inv .0 .4, at-hold-call .hold-call .kept, at-answer .answer .kept),
+        omega
+            (arith, at-loop .loop .inv .0 .5, at-hold-call .hold-call .kept, at-answer .answer .kept),
+      ),
+      record {
+        low = c .before .goes-on .ensures (c .if1 .taken) .1;
+        high = at-hold-call .hold-call .ensures .high;
+        begun = λ e. absurd
+            (false≢true e);
+      },
+    )
 
 say-end-requires : tie.Need-say-end-requires Inv-loop μ-loop
 say-end-requires c κs = tt
 
 loop-less-2 : tie.Need-loop-less-2 Inv-loop μ-loop
-loop-less-2 c = omega (arith, c .before .before .before .before .before .before .before .before .before .before .before .before .before .before .before .before .before .before .before .before .before .before .before .before .before .before .loop-test .taken)
+loop-less-2 c =
+    let at-loop-test = c .before .before .before .before .before .before .before .before .before .before .before
+    .before .before .before .before .before .before .before .before .before .before .before .before .before .before .before in
+    omega (arith, at-loop-test .loop-test .taken)
 
 loop-again-2 : tie.Need-loop-again-2 Inv-loop μ-loop
-loop-again-2 c = ((omega (arith, c .before .before .before .before .before .before .before .before .before .before .before .before .before .before .before .before .before .before .before .before .before .before .before .before .before .before .before .loop .inv .0 .0, c .before .before .before .before .before .before .before .before .before .before .before .before .before .before .before .before .before .before .before .before .before .before .before .before .hold-call .kept, c .before .before .before .before .before .before .before .before .before .before .before .before .before .before .answer .kept), omega (arith, c .before .before .before .before .before .before .before .before .before .before .before .before .before .before .before .before .before .before .before .before .before .before .before .before .before .before .before .loop .inv .0 .1, c .before .before .before .before .before .before .before .before .before .before .before .before .before .before .before .before .before .before .before .before .before .before .before .before .hold-call .kept, c .before .before .before .before .before .before .before .before .before .before .before .before .before .before .answer .kept), omega (arith, c .before .before .before .before .before .before .before .before .before .before .before .before .before .before .before .before .before .before .before .before .before .before .before .before .before .before .before .loop .inv .0 .2, c .before .before .before .before .before .before .before .before .before .before .before .before .before .before .before .before .before .before .before .before .before .before .before .before .hold-call .kept, c .before .before .before .before .before .before .before .before .before .before .before .before .before .before .answer .kept), omega (arith, c .before .before .before .before .before .before .before .before .before .before .before .before .before .before .before .before .before .before .before .before .before .before .before .before .before .before .before .loop .inv .0 .3, c .before .before .before .before .before .before .before .before .before .before .before .before .before .before .before .before .before .before .before .before .before .before .before .before .hold-call .kept, c .before .before .before .before .before .before .before .before .before .before .before .before .before .before .answer .kept), omega (arith, c .before .before .before .before .before .before .before .before .before .before .before .before .before .before .before .before .before .before .before .before .before .before .before .before .before .before .before .loop .inv .0 .4, c .before .before .before .before .before .before .before .before .before .before .before .before .before .before .before .before .before .before .before .before .before .before .before .before .hold-call .kept, c .before .before .before .before .before .before .before .before .before .before .before .before .before .before .answer .kept), omega (arith, c .before .before .before .before .before .before .before .before .before .before .before .before .before .before .before .before .before .before .before .before .before .before .before .before .before .before .before .loop .inv .0 .5, c .before .before .before .before .before .before .before .before .before .before .before .before .before .before .before .before .before .before .before .before .before .before .before .before .hold-call .kept, c .before .before .before .before .before .before .before .before .before .before .before .before .before .before .answer .kept)), c .before .before .before .before .before .before .before .before .before .before .before .before .before .before .before .before .before .before .before .before .before .before .before .before .hold-call .ensures)
+loop-again-2 c =
+    let at-answer = c .before .before .before .before .before
+    .before .before .before .before .before .before .before .before .before in
+    let at-hold-call = at-answer .before .before .before .before .before .before .before .before .before .before in
+    let at-loop = at-hold-call .before .before .before in (
+      (
+        omega (arith, at-loop .loop .inv .0 .0, at-hold-call .hold-call .kept, at-answer .answer .kept),
+        omega
+            (arith, at-loop .loop .inv .0 .1, at-hold-call .hold-call .kept, at-answer .answer .kept),
+        omega
+            (arith, at-loop .loop .inv .0 .2, at-hold-call .hold-call .kept, at-answer .answer .kept),
+        omega
+            (arith, at-loop .loop .inv .0 .3, at-hold-call .hold-call .kept, at-answer .answer .kept),
+        omega
+            (arith, at-loop .loop .inv .0 .4, at-hold-call .hold-call .kept, at-answer .answer .kept),
+        omega
+            (arith, at-loop .loop .inv .0 .5, at-hold-call .hold-call .kept, at-answer .answer .kept),
+      ),
+      at-hold-call .hold-call .ensures,
+    )
 
 same-length : tie.Need-same-length Inv-loop μ-loop
 same-length c = omega (arith, c .before .loop .inv .0 .0)

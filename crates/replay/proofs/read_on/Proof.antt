@@ -30,11 +30,14 @@ same-length : tie.Need-same-length
 same-length c = search needs
 
 returns : tie.Need-returns
-returns c = record {
-  low = omega (arith, c .before .before .before .before .before .before .make-room .ensures .holds .low);
-  high = omega (arith, c .before .before .before .before .before .before .make-room .ensures .holds .high, c .before .before .read-full .ensures);
-  begun = λ e. omega (arith, c .before .before .before .before .before .before .make-room .ensures .holds .begun e);
-}
+returns c =
+    let at-read-full = c .before .before in
+    let at-make-room = at-read-full .before .before .before .before in
+    record {
+      low = omega (arith, at-make-room .make-room .ensures .holds .low);
+      high = omega (arith, at-make-room .make-room .ensures .holds .high, at-read-full .read-full .ensures);
+      begun = λ e. omega (arith, at-make-room .make-room .ensures .holds .begun e);
+    }
 
 pub read-on-spec : {M : Type 1} → statement M
 read-on-spec =

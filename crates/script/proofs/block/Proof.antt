@@ -43,23 +43,25 @@ no-call-requires-2 c κs = search needs
 
 returns-2 : tie.Need-returns-2
 returns-2 c =
-    let tested = c .before .before .before .before .before in
+    let at-take-byte = c .before .before .before in
+    let tested = at-take-byte .before .before in
     let line = tested .before .before in
     let start = line .before .before .before in
     let k = line-took (start .args .name .now) (start .args .s .now) (start .args .a)
     (line .first-line .result) (not-false _ (tested .if1 .left)) (line .first-line .ensures) in
     no-call _ _ _ (c .no-call2 .result) (c .no-call2 .ensures)
     (no-end (start .args .name .now) _ _ _ _ k
-    (text-none _ (c .before .enum-told .given .1) (c .before .before .before .take-byte .ensures)))
+    (text-none _ (c .before .enum-told .given .1) (at-take-byte .take-byte .ensures)))
 
 returns-3 : tie.Need-returns-3
 returns-3 c =
-    let tested = c .before .before .before .before .before in
+    let at-take-byte = c .before .before .before in
+    let tested = at-take-byte .before .before in
     let line = tested .before .before in
     let start = line .before .before .before in
     let k = line-took (start .args .name .now) (start .args .s .now) (start .args .a)
     (line .first-line .result) (not-false _ (tested .if1 .left)) (line .first-line .ensures) in
-    a-call _ _ _ _ _ k _ (text-took _ (c .before .next .given .1) (c .before .before .before .take-byte .ensures))
+    a-call _ _ _ _ _ k _ (text-took _ (c .before .next .given .1) (at-take-byte .take-byte .ensures))
 
 pub block-spec : {M : Type 1} → statement M
 block-spec =

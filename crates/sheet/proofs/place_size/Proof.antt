@@ -34,10 +34,18 @@ spot-of-requires : tie.Need-spot-of-requires
 spot-of-requires c κs = search needs
 
 place-line-size-requires : tie.Need-place-line-size-requires
-place-line-size-requires c κs = (c .before .before .before .before .before .pre .0, c .spot-of .ensures .1)
+place-line-size-requires c κs =
+    let at-pre = c .before .before .before .before .before in
+    (at-pre .pre .0, c .spot-of .ensures .1)
 
 returns : tie.Need-returns
-returns c = sized-as (place-here (c .before .before .before .before .before .before .args .h) (c .before .before .before .before .before .before .args .keys .now) (c .before .before .before .before .before .before .args .row) (c .before .before .before .before .word .ensures) (c .before .before .before .word2 .ensures) (c .before .before .word3 .ensures) (c .before .spot-of .ensures .0)) (c .place-line-size .ensures)
+returns c =
+    let at-word3 = c .before .before in
+    let at-word2 = at-word3 .before in
+    let at-word = at-word2 .before in
+    let at-start = at-word .before .before in
+    sized-as (place-here (at-start .args .h) (at-start .args .keys .now) (at-start .args .row) (at-word .word .ensures)
+    (at-word2 .word2 .ensures) (at-word3 .word3 .ensures) (c .before .spot-of .ensures .0)) (c .place-line-size .ensures)
 
 pub place-size-spec : {M : Type 1} → statement M
 place-size-spec =

@@ -34,13 +34,32 @@ spot-of-requires : tie.Need-spot-of-requires
 spot-of-requires c κs = search needs
 
 put-place-line-requires : tie.Need-put-place-line-requires
-put-place-line-requires c κs = (c .before .before .before .before .before .before .before .pre .0, c .before .spot-of .ensures .1, rw (place-here (c .before .before .before .before .before .before .before .args .h) (c .before .before .before .before .before .before .before .args .keys .now) (c .before .before .before .before .before .before .before .args .row) (c .before .before .before .before .word .ensures) (c .before .before .before .word2 .ensures) (c .before .before .word3 .ensures) (c .before .spot-of .ensures .0)) (c .before .before .before .before .before .before .before .pre .2))
+put-place-line-requires c κs =
+    let at-word3 = c .before .before in
+    let at-word2 = at-word3 .before in
+    let at-word = at-word2 .before in
+    let at-pre = at-word .before .before .before in (
+      at-pre .pre .0,
+      c .before .spot-of .ensures .1,
+      rw
+          (place-here (at-pre .args .h) (at-pre .args .keys .now) (at-pre .args .row) (at-word .word .ensures) (at-word2 .word2 .ensures)
+          (at-word3 .word3 .ensures) (c .before .spot-of .ensures .0)) (at-pre .pre .2),
+    )
 
 same-length : tie.Need-same-length
 same-length c = search needs
 
 returns : tie.Need-returns
-returns c = wrote-as (place-here (c .before .before .before .before .before .before .before .before .before .before .args .h) (c .before .before .before .before .before .before .before .before .before .before .args .keys .now) (c .before .before .before .before .before .before .before .before .before .before .args .row) (c .before .before .before .before .before .before .before .word .ensures) (c .before .before .before .before .before .before .word2 .ensures) (c .before .before .before .before .before .word3 .ensures) (c .before .before .before .before .spot-of .ensures .0)) (c .before .before .put-place-line .ensures)
+returns c =
+    let at-put-place-line = c .before .before in
+    let at-spot-of = at-put-place-line .before .before in
+    let at-word3 = at-spot-of .before in
+    let at-word2 = at-word3 .before in
+    let at-word = at-word2 .before in
+    let at-start = at-word .before .before .before in
+    wrote-as (place-here (at-start .args .h) (at-start .args .keys .now) (at-start .args .row) (at-word .word .ensures)
+    (at-word2 .word2 .ensures) (at-word3 .word3 .ensures) (at-spot-of .spot-of .ensures .0))
+    (at-put-place-line .put-place-line .ensures)
 
 pub put-place-spec : {M : Type 1} → statement M
 put-place-spec =

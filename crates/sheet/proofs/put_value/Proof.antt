@@ -48,13 +48,40 @@ word-requires-6 : tie.Need-word-requires-6
 word-requires-6 c κs = search needs
 
 put-value-line-requires : tie.Need-put-value-line-requires
-put-value-line-requires c κs = (c .before .before .before .before .before .before .before .before .before .before .pre .0, c .before .before .before .before .before .kind-of .ensures .1, rw (value-here (c .before .before .before .before .before .before .before .before .before .before .args .values .now) (c .before .before .before .before .before .before .before .before .before .before .args .i) (c .before .before .before .before .before .before .before .word .ensures) (c .before .before .before .before .before .before .word2 .ensures) (c .before .before .before .before .before .kind-of .ensures .0) (c .before .before .before .before .word3 .ensures) (c .before .before .before .word4 .ensures) (c .before .before .word5 .ensures) (c .word6 .ensures)) (c .before .before .before .before .before .before .before .before .before .before .pre .2))
+put-value-line-requires c κs =
+    let at-word5 = c .before .before in
+    let at-word4 = at-word5 .before in
+    let at-word3 = at-word4 .before in
+    let at-kind-of = at-word3 .before in
+    let at-word2 = at-kind-of .before in
+    let at-word = at-word2 .before in
+    let at-pre = at-word .before .before .before in (
+      at-pre .pre .0,
+      at-kind-of .kind-of .ensures .1,
+      rw
+          (value-here (at-pre .args .values .now) (at-pre .args .i) (at-word .word .ensures) (at-word2 .word2 .ensures)
+          (at-kind-of .kind-of .ensures .0) (at-word3 .word3 .ensures) (at-word4 .word4 .ensures) (at-word5 .word5 .ensures)
+          (c .word6 .ensures)) (at-pre .pre .2),
+    )
 
 same-length : tie.Need-same-length
 same-length c = search needs
 
 returns : tie.Need-returns
-returns c = wrote-as (ap (λ v. lineText (valueLine v)) (value-here (c .before .before .before .before .before .before .before .before .before .before .before .before .before .args .values .now) (c .before .before .before .before .before .before .before .before .before .before .before .before .before .args .i) (c .before .before .before .before .before .before .before .before .before .before .word .ensures) (c .before .before .before .before .before .before .before .before .before .word2 .ensures) (c .before .before .before .before .before .before .before .before .kind-of .ensures .0) (c .before .before .before .before .before .before .before .word3 .ensures) (c .before .before .before .before .before .before .word4 .ensures) (c .before .before .before .before .before .word5 .ensures) (c .before .before .before .word6 .ensures))) (c .before .before .put-value-line .ensures)
+returns c =
+    let at-put-value-line = c .before .before in
+    let at-word6 = at-put-value-line .before in
+    let at-word5 = at-word6 .before .before in
+    let at-word4 = at-word5 .before in
+    let at-word3 = at-word4 .before in
+    let at-kind-of = at-word3 .before in
+    let at-word2 = at-kind-of .before in
+    let at-word = at-word2 .before in
+    let at-start = at-word .before .before .before in
+    wrote-as (ap (λ v. lineText (valueLine v))
+    (value-here (at-start .args .values .now) (at-start .args .i) (at-word .word .ensures) (at-word2 .word2 .ensures)
+    (at-kind-of .kind-of .ensures .0) (at-word3 .word3 .ensures) (at-word4 .word4 .ensures) (at-word5 .word5 .ensures)
+    (at-word6 .word6 .ensures))) (at-put-value-line .put-value-line .ensures)
 
 pub put-value-spec : {M : Type 1} → statement M
 put-value-spec =

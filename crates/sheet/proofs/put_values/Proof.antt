@@ -10,7 +10,8 @@ use Rattle.sheet.proofs.put_values.Statement.{statement}
 use Rattle.sheet.proofs.put_values.Tie as tie
 
 abbrev Inv-loop : tie.InvT-loop
-Inv-loop buf₀ values from n t at₀ i₀ left₀ buf at i left = Writing (valuesText values from n) buf₀ (valuesText values i left) buf at × (i + left ≡ from + n)
+Inv-loop buf₀ values from n t at₀ i₀ left₀ buf at i left = Writing (valuesText values from n) buf₀ (valuesText values i left) buf at
+    × (i + left ≡ from + n)
 
 abbrev μ-loop : tie.MeasureT-loop
 μ-loop buf₀ values from n t at₀ i₀ left₀ buf at i left = left
@@ -28,28 +29,66 @@ part-put-value-end : tie.Need-part-put-value-end Inv-loop μ-loop
 part-put-value-end c = omega (arith, last-room (c .before .loop .inv .0))
 
 put-value-requires : tie.Need-put-value-requires Inv-loop μ-loop
-put-value-requires c κs = (c .before .before .before .before .before .pre .0, omega (arith, c .before .before .loop .inv .1, c .before .loop-test .taken, c .before .before .before .before .before .pre .1), write-room (valueText (c .before .before .before .before .before .args .values .now)) (λ i. i + 1) (c .before .before .loop .i) (c .before .before .loop .left) (c .before .before .loop .inv .0) (c .before .loop-test .taken))
+put-value-requires c κs =
+    let at-loop = c .before .before in
+    let at-pre = at-loop .before .before .before in (
+      at-pre .pre .0,
+      omega (arith, at-loop .loop .inv .1, c .before .loop-test .taken, at-pre .pre .1),
+      write-room
+          (valueText (at-pre .args .values .now)) (λ i. i + 1) (at-loop .loop .i) (at-loop .loop .left) (at-loop .loop .inv .0)
+          (c .before .loop-test .taken),
+    )
 
 add-at : tie.Need-add-at Inv-loop μ-loop
-add-at c = omega (arith, write-fits (valueText (c .before .before .before .before .before .before .before .before .args .values .now)) (λ i. i + 1) (c .before .before .before .before .before .loop .i) (c .before .before .before .before .before .loop .left) (c .before .before .before .before .before .loop .inv .0) (c .before .before .before .before .loop-test .taken) (c .before .before .put-value .ensures), same-long (c .before .before .before .before .before .loop .inv .0))
+add-at c =
+    let at-put-value = c .before .before in
+    let at-loop-test = at-put-value .before .before in
+    let at-loop = at-loop-test .before in
+    let at-start = at-loop .before .before .before in
+    omega (
+      arith,
+      write-fits (valueText (at-start .args .values .now)) (λ i. i + 1) (at-loop .loop .i) (at-loop .loop .left)
+          (at-loop .loop .inv .0) (at-loop-test .loop-test .taken) (at-put-value .put-value .ensures),
+      same-long (at-loop .loop .inv .0),
+    )
 
 add-i : tie.Need-add-i Inv-loop μ-loop
-add-i c = omega (arith, c .before .before .before .before .before .loop .inv .1, c .before .before .before .before .loop-test .taken, c .before .before .before .before .before .before .before .before .pre .1)
+add-i c =
+    let at-loop-test = c .before .before .before .before in
+    let at-loop = at-loop-test .before in
+    let at-pre = at-loop .before .before .before in
+    omega (arith, at-loop .loop .inv .1, at-loop-test .loop-test .taken, at-pre .pre .1)
 
 sub-left : tie.Need-sub-left Inv-loop μ-loop
-sub-left c = omega (arith, c .before .before .before .before .loop-test .taken)
+sub-left c =
+    let at-loop-test = c .before .before .before .before in
+    omega (arith, at-loop-test .loop-test .taken)
 
 loop-less : tie.Need-loop-less Inv-loop μ-loop
-loop-less c = omega (arith, c .before .before .before .before .loop-test .taken)
+loop-less c =
+    let at-loop-test = c .before .before .before .before in
+    omega (arith, at-loop-test .loop-test .taken)
 
 loop-again : tie.Need-loop-again Inv-loop μ-loop
-loop-again c = (write-more (valueText (c .before .before .before .before .before .before .before .before .args .values .now)) (λ i. i + 1) (c .before .before .before .before .before .loop .i) (c .before .before .before .before .before .loop .left) (c .before .before .before .before .before .loop .inv .0) (c .before .before .before .before .loop-test .taken) (c .before .before .put-value .ensures), omega (arith, c .before .before .before .before .before .loop .inv .1, c .before .before .before .before .loop-test .taken))
+loop-again c =
+    let at-put-value = c .before .before in
+    let at-loop-test = at-put-value .before .before in
+    let at-loop = at-loop-test .before in
+    let at-start = at-loop .before .before .before in (
+      write-more (valueText (at-start .args .values .now)) (λ i. i + 1) (at-loop .loop .i) (at-loop .loop .left)
+          (at-loop .loop .inv .0) (at-loop-test .loop-test .taken) (at-put-value .put-value .ensures),
+      omega
+          (arith, at-loop .loop .inv .1, at-loop-test .loop-test .taken),
+    )
 
 same-length : tie.Need-same-length Inv-loop μ-loop
 same-length c = same-long (c .before .loop .inv .0)
 
 returns : tie.Need-returns Inv-loop μ-loop
-returns c = write-all (valueText (c .before .before .before .before .args .values .now)) (λ i. i + 1) (c .before .loop .i) (c .before .loop .left) (c .before .loop .inv .0) (c .loop-test .left)
+returns c =
+    let at-start = c .before .before .before .before in
+    write-all (valueText (at-start .args .values .now)) (λ i. i + 1) (c .before .loop .i) (c .before .loop .left)
+    (c .before .loop .inv .0) (c .loop-test .left)
 
 pub put-values-spec : {M : Type 1} → statement M
 put-values-spec =

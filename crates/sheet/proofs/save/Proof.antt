@@ -6,7 +6,10 @@ use Rattle.sheet.proofs.save.Statement.{statement}
 use Rattle.sheet.proofs.save.Tie as tie
 
 returns : tie.Need-returns
-returns c = too-many (c .before .before .before .before .before .before .args .heads .now) (c .before .before .before .before .before .before .args .keys .now) (c .before .before .before .before .before .before .args .marks .now) (c .before .before .before .before .before .before .args .values .now) (c .before .before .before .before .before .before .args .c) (c .before .before .before .before .before .before .args .seen) (c .before .before .before .before .before .before .args .buf .now) (c .if1 .taken)
+returns c =
+    let at-start = c .before .before .before .before .before .before in
+    too-many (at-start .args .heads .now) (at-start .args .keys .now) (at-start .args .marks .now) (at-start .args .values .now)
+    (at-start .args .c) (at-start .args .seen) (at-start .args .buf .now) (c .if1 .taken)
 
 powers-requires : tie.Need-powers-requires
 powers-requires c κs = search needs
@@ -15,16 +18,33 @@ sheet-size-requires : tie.Need-sheet-size-requires
 sheet-size-requires c κs = search needs
 
 returns-2 : tie.Need-returns-2
-returns-2 c = too-short (c .before .before .before .before .before .before .before .before .before .before .args .heads .now) (c .before .before .before .before .before .before .before .before .before .before .args .keys .now) (c .before .before .before .before .before .before .before .before .before .before .args .marks .now) (c .before .before .before .before .before .before .before .before .before .before .args .values .now) (c .before .before .before .before .before .before .before .before .before .before .args .c) (c .before .before .before .before .before .before .before .before .before .before .args .seen) (c .before .before .before .before .before .before .before .before .before .before .args .buf .now) (c .before .sheet-size .result) (c .before .sheet-size .ensures) (c .if2 .taken)
+returns-2 c =
+    let at-start = c .before .before .before .before .before .before .before .before .before .before in
+    too-short (at-start .args .heads .now) (at-start .args .keys .now) (at-start .args .marks .now) (at-start .args .values .now)
+    (at-start .args .c) (at-start .args .seen) (at-start .args .buf .now) (c .before .sheet-size .result)
+    (c .before .sheet-size .ensures) (c .if2 .taken)
 
 put-sheet-requires : tie.Need-put-sheet-requires
-put-sheet-requires c κs = (c .before .before .before .before .before .powers .ensures, c .before .before .before .before .before .before .if1 .left, rw (c .before .before .before .sheet-size .ensures) at (c .before .before .if2 .left))
+put-sheet-requires c κs =
+    let at-if2 = c .before .before in
+    let at-sheet-size = at-if2 .before in
+    let at-powers = at-sheet-size .before .before in
+    let at-if1 = at-powers .before in
+    (at-powers .powers .ensures, at-if1 .if1 .left, rw (at-sheet-size .sheet-size .ensures) at (at-if2 .if2 .left))
 
 same-length : tie.Need-same-length
 same-length c = search needs
 
 returns-3 : tie.Need-returns-3
-returns-3 c = written (c .before .before .before .before .before .before .before .before .before .before .before .before .before .before .before .args .heads .now) (c .before .before .before .before .before .before .before .before .before .before .before .before .before .before .before .args .keys .now) (c .before .before .before .before .before .before .before .before .before .before .before .before .before .before .before .args .marks .now) (c .before .before .before .before .before .before .before .before .before .before .before .before .before .before .before .args .values .now) (c .before .before .before .before .before .before .before .before .before .before .before .before .before .before .before .args .c) (c .before .before .before .before .before .before .before .before .before .before .before .before .before .before .before .args .seen) (c .before .before .before .before .before .before .before .before .before .before .before .before .before .before .before .args .buf .now) (c .before .before .put-sheet .result) (c .before .before .before .before .before .before .sheet-size .result) _ (c .before .before .before .before .before .before .sheet-size .ensures) (c .before .before .before .before .before .if2 .left) (c .before .before .put-sheet .ensures)
+returns-3 c =
+    let at-put-sheet = c .before .before in
+    let at-if2 = at-put-sheet .before .before .before in
+    let at-sheet-size = at-if2 .before in
+    let at-start = at-sheet-size .before .before .before .before .before .before .before .before .before in
+    written (at-start .args .heads .now) (at-start .args .keys .now) (at-start .args .marks .now) (at-start .args .values .now)
+    (at-start .args .c) (at-start .args .seen) (at-start .args .buf .now) (at-put-sheet .put-sheet .result)
+    (at-sheet-size .sheet-size .result) _ (at-sheet-size .sheet-size .ensures) (at-if2 .if2 .left)
+    (at-put-sheet .put-sheet .ensures)
 
 pub save-spec : {M : Type 1} → statement M
 save-spec =

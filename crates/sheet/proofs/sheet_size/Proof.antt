@@ -12,7 +12,9 @@ seen-line-size-requires : tie.Need-seen-line-size-requires
 seen-line-size-requires c κs = search needs
 
 rows-size-requires : tie.Need-rows-size-requires
-rows-size-requires c κs = (c .before .before .before .before .before .pre .0, c .before .before .before .before .before .pre .1)
+rows-size-requires c κs =
+    let at-pre = c .before .before .before .before .before in
+    (at-pre .pre .0, at-pre .pre .1)
 
 end-line-size-requires : tie.Need-end-line-size-requires
 end-line-size-requires c κs = search needs
@@ -21,13 +23,37 @@ add-result : tie.Need-add-result
 add-result c = omega (arith, c .before .before .seen-line-size .ensures .most)
 
 add-result-2 : tie.Need-add-result-2
-add-result-2 c = omega (arith, c .before .before .seen-line-size .ensures .most, c .before .rows-size .ensures .most, c .before .before .before .before .before .before .before .pre .1)
+add-result-2 c =
+    let at-seen-line-size = c .before .before in
+    let at-pre = at-seen-line-size .before .before .before .before .before in
+    omega (arith, at-seen-line-size .seen-line-size .ensures .most, c .before .rows-size .ensures .most, at-pre .pre .1)
 
 add-result-3 : tie.Need-add-result-3
-add-result-3 c = omega (arith, c .before .before .seen-line-size .ensures .most, c .before .rows-size .ensures .most, c .end-line-size .ensures .most, c .before .before .before .before .before .before .before .pre .1)
+add-result-3 c =
+    let at-seen-line-size = c .before .before in
+    let at-pre = at-seen-line-size .before .before .before .before .before in
+    omega (
+      arith,
+      at-seen-line-size .seen-line-size .ensures .most,
+      c .before .rows-size .ensures .most,
+      c .end-line-size .ensures
+          .most,
+      at-pre .pre .1,
+    )
 
 returns : tie.Need-returns
-returns c = rw (sheet-text (four (c .before .before .before .before .before .before .before .args .heads .now) (c .before .before .before .before .before .before .before .args .keys .now) (c .before .before .before .before .before .before .before .args .marks .now) (c .before .before .before .before .before .before .before .args .values .now)) (c .before .before .before .before .before .before .before .args .rows) (c .before .before .before .before .before .before .before .args .seen .at)) (simp length-append (omega (arith, c .before .before .seen-line-size .ensures .size, c .before .rows-size .ensures .size, c .end-line-size .ensures .size)))
+returns c =
+    let at-seen-line-size = c .before .before in
+    let at-start = at-seen-line-size .before .before .before .before .before in
+    rw (sheet-text (four (at-start .args .heads .now) (at-start .args .keys .now) (at-start .args .marks .now)
+    (at-start .args .values .now)) (at-start .args .rows) (at-start .args .seen .at))
+    (simp length-append (omega (
+      arith,
+      at-seen-line-size .seen-line-size .ensures .size,
+      c .before .rows-size .ensures .size,
+      c
+          .end-line-size .ensures .size,
+    )))
 
 pub sheet-size-spec : {M : Type 1} → statement M
 sheet-size-spec =

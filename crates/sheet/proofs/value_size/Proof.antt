@@ -48,10 +48,24 @@ word-requires-6 : tie.Need-word-requires-6
 word-requires-6 c κs = search needs
 
 value-line-size-requires : tie.Need-value-line-size-requires
-value-line-size-requires c κs = (c .before .before .before .before .before .before .before .before .pre .0, c .before .before .before .before .kind-of .ensures .1)
+value-line-size-requires c κs =
+    let at-kind-of = c .before .before .before .before in
+    let at-pre = at-kind-of .before .before .before .before in
+    (at-pre .pre .0, at-kind-of .kind-of .ensures .1)
 
 returns : tie.Need-returns
-returns c = sized-as (ap (λ v. lineText (valueLine v)) (value-here (c .before .before .before .before .before .before .before .before .before .args .values .now) (c .before .before .before .before .before .before .before .before .before .args .i) (c .before .before .before .before .before .before .before .word .ensures) (c .before .before .before .before .before .before .word2 .ensures) (c .before .before .before .before .before .kind-of .ensures .0) (c .before .before .before .before .word3 .ensures) (c .before .before .before .word4 .ensures) (c .before .before .word5 .ensures) (c .before .word6 .ensures))) (c .value-line-size .ensures)
+returns c =
+    let at-word5 = c .before .before in
+    let at-word4 = at-word5 .before in
+    let at-word3 = at-word4 .before in
+    let at-kind-of = at-word3 .before in
+    let at-word2 = at-kind-of .before in
+    let at-word = at-word2 .before in
+    let at-start = at-word .before .before in
+    sized-as (ap (λ v. lineText (valueLine v))
+    (value-here (at-start .args .values .now) (at-start .args .i) (at-word .word .ensures) (at-word2 .word2 .ensures)
+    (at-kind-of .kind-of .ensures .0) (at-word3 .word3 .ensures) (at-word4 .word4 .ensures) (at-word5 .word5 .ensures)
+    (c .before .word6 .ensures))) (c .value-line-size .ensures)
 
 pub value-size-spec : {M : Type 1} → statement M
 value-size-spec =

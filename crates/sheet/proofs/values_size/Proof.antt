@@ -9,7 +9,8 @@ use Rattle.sheet.proofs.values_size.Statement.{statement}
 use Rattle.sheet.proofs.values_size.Tie as tie
 
 abbrev Inv-loop : tie.InvT-loop
-Inv-loop values from n t sum₀ i₀ left₀ sum i left = Summing (valuesText values from n) (valuesText values i left) 114 left (114 * n) sum × (i + left ≡ from + n)
+Inv-loop values from n t sum₀ i₀ left₀ sum i left = Summing (valuesText values from n) (valuesText values i left) 114 left (114 * n)
+    sum × (i + left ≡ from + n)
 
 abbrev μ-loop : tie.MeasureT-loop
 μ-loop values from n t sum₀ i₀ left₀ sum i left = left
@@ -18,13 +19,21 @@ loop-holds : tie.Need-loop-holds Inv-loop μ-loop
 loop-holds c = (sum-begun (valueText (c .before .args .values .now)) (λ i. i + 1) (c .before .args .from) (c .before .args .n) 114, refl)
 
 value-size-requires : tie.Need-value-size-requires Inv-loop μ-loop
-value-size-requires c κs = (c .before .before .before .pre .0, omega (arith, c .before .loop .inv .1, c .loop-test .taken))
+value-size-requires c κs =
+    let at-pre = c .before .before .before in
+    (at-pre .pre .0, omega (arith, c .before .loop .inv .1, c .loop-test .taken))
 
 add-sum : tie.Need-add-sum Inv-loop μ-loop
-add-sum c = omega (arith, c .value-size .ensures .most, c .before .before .loop .inv .0 .most, c .before .loop-test .taken, c .before .before .before .before .pre .1)
+add-sum c =
+    let at-loop = c .before .before in
+    let at-pre = at-loop .before .before in
+    omega (arith, c .value-size .ensures .most, at-loop .loop .inv .0 .most, c .before .loop-test .taken, at-pre .pre .1)
 
 add-i : tie.Need-add-i Inv-loop μ-loop
-add-i c = omega (arith, c .before .before .loop .inv .1, c .before .loop-test .taken, c .before .before .before .before .pre .1)
+add-i c =
+    let at-loop = c .before .before in
+    let at-pre = at-loop .before .before in
+    omega (arith, at-loop .loop .inv .1, c .before .loop-test .taken, at-pre .pre .1)
 
 sub-left : tie.Need-sub-left Inv-loop μ-loop
 sub-left c = omega (arith, c .before .loop-test .taken)
@@ -33,10 +42,20 @@ loop-less : tie.Need-loop-less Inv-loop μ-loop
 loop-less c = omega (arith, c .before .loop-test .taken)
 
 loop-again : tie.Need-loop-again Inv-loop μ-loop
-loop-again c = (sum-more (valueText (c .before .before .before .before .args .values .now)) (λ i. i + 1) (c .before .before .loop .i) (c .before .before .loop .left) (c .before .loop-test .taken) (c .before .before .loop .inv .0) (c .value-size .ensures), omega (arith, c .before .before .loop .inv .1, c .before .loop-test .taken))
+loop-again c =
+    let at-loop = c .before .before in
+    let at-start = at-loop .before .before in (
+      sum-more (valueText (at-start .args .values .now)) (λ i. i + 1) (at-loop .loop .i) (at-loop .loop .left)
+          (c .before .loop-test .taken) (at-loop .loop .inv .0) (c .value-size .ensures),
+      omega
+          (arith, at-loop .loop .inv .1, c .before .loop-test .taken),
+    )
 
 returns : tie.Need-returns Inv-loop μ-loop
-returns c = sum-all (valueText (c .before .before .before .args .values .now)) (λ i. i + 1) (c .before .loop .i) (c .before .loop .left) (c .loop-test .left) (c .before .loop .inv .0)
+returns c =
+    let at-start = c .before .before .before in
+    sum-all (valueText (at-start .args .values .now)) (λ i. i + 1) (c .before .loop .i) (c .before .loop .left) (c .loop-test .left)
+    (c .before .loop .inv .0)
 
 pub values-size-spec : {M : Type 1} → statement M
 values-size-spec =

@@ -106,7 +106,8 @@ returns-7 c =
     let k = o .before .before in
     let g = k .before .before in
     let n = g .before .before in
-    adds _ _ _ _ _ _ _ _ _ _ _ (n .before .before .before .if3 .left) (g .before .if5 .left) (g .if6 .left) (n .values-of .ensures) (k .rank-values .ensures)
+    adds _ _ _ _ _ _ _ _ _ _ _ (n .before .before .before .if3 .left) (g .before .if5 .left) (g .if6 .left) (n .values-of .ensures)
+    (k .rank-values .ensures)
     (o .«open» .ensures) (w .write-words .ensures)
 
 pub add-value-spec : {M : Type 1} → statement M

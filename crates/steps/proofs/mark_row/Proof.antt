@@ -49,7 +49,8 @@ returns-7 c k t v A R r G H e u l some low = absurd (omega (arith, low, c .if7 .
 
 returns-8 : tie.Need-returns-8
 unfolding Marks
-returns-8 c k t v A R r G H e u l some low = absurd (omega (arith, low, placed _ _ _ A R r H e .marks, c .before .before .marks-of .ensures, c .if8 .taken))
+returns-8 c k t v A R r G H e u l some low = absurd
+    (omega (arith, low, placed _ _ _ A R r H e .marks, c .before .before .marks-of .ensures, c .if8 .taken))
 
 rank-requires : tie.Need-rank-requires
 rank-requires c κs = search needs
@@ -92,7 +93,13 @@ same-length-2 c = search needs
 
 returns-9 : tie.Need-returns-9
 returns-9 c =
-    marks _ _ _ _ _ _ _ _ _ _ (c .before .before .before .before .before .before .before .if7 .left) (c .before .before .before .before .before .before .if8 .left) (c .before .before .before .before .before .before .before .before .marks-of .ensures) (c .before .before .before .before .rank .ensures) (c .before .before .«open» .ensures)
+    let at-open = c .before .before in
+    let at-rank = at-open .before .before in
+    let at-if8 = at-rank .before .before in
+    let at-if7 = at-if8 .before in
+    let at-marks-of = at-if7 .before in
+    marks _ _ _ _ _ _ _ _ _ _ (at-if7 .if7 .left) (at-if8 .if8 .left) (at-marks-of .marks-of .ensures) (at-rank .rank .ensures)
+    (at-open .«open» .ensures)
 
 pub mark-row-spec : {M : Type 1} → statement M
 mark-row-spec =

@@ -82,7 +82,8 @@ returns-7 c =
     let o = k .before .before .before .before in
     let h = o .before .before .before .before in
     let g = h .before .before in
-    opens _ _ _ _ _ _ _ _ _ _ _ _ (g .before .before .before .before .if2 .left) (g .before .if5 .left) (g .if6 .left) (h .«open» .ensures) (o .open2 .ensures)
+    opens _ _ _ _ _ _ _ _ _ _ _ _ (g .before .before .before .before .if2 .left) (g .before .if5 .left) (g .if6 .left)
+    (h .«open» .ensures) (o .open2 .ensures)
     (k .write3 .ensures)
 
 pub open-row-spec : {M : Type 1} → statement M

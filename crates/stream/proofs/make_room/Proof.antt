@@ -34,13 +34,18 @@ loop-less : tie.Need-loop-less Inv-loop μ-loop
 loop-less c = search needs
 
 loop-again : tie.Need-loop-again Inv-loop μ-loop
-loop-again c = moving-more (c .before .before .loop .inv) (c .before .before .before .before .pre) (c .before .loop-test .taken)
+loop-again c =
+    let at-loop = c .before .before in
+    let at-pre = at-loop .before .before in
+    moving-more (at-loop .loop .inv) (at-pre .pre) (c .before .loop-test .taken)
 
 same-length : tie.Need-same-length Inv-loop μ-loop
 same-length c = c .before .loop .inv .long
 
 returns : tie.Need-returns Inv-loop μ-loop
-returns c = moved (c .before .loop .inv) (c .before .before .before .pre) (c .loop-test .left)
+returns c =
+    let at-pre = c .before .before .before in
+    moved (c .before .loop .inv) (at-pre .pre) (c .loop-test .left)
 
 pub make-room-spec : {M : Type 1} → statement M
 make-room-spec =

@@ -30,19 +30,32 @@ stands-requires : tie.Need-stands-requires Inv-loop μ-loop
 stands-requires c κs = search needs
 
 returns : tie.Need-returns Inv-loop μ-loop
-returns c = found (c .before .before .before .before .before .before .loop .inv) (c .before .before .before .before .before .loop-test .taken) (c .before .before .before .if1 .taken) (sym (c .if2 .taken) ∙ c .before .stands .ensures)
+returns c =
+    let at-if1 = c .before .before .before in
+    let at-loop-test = at-if1 .before .before in
+    let at-loop = at-loop-test .before in
+    found (at-loop .loop .inv) (at-loop-test .loop-test .taken) (at-if1 .if1 .taken)
+    (sym (c .if2 .taken) ∙ c .before .stands .ensures)
 
 loop-less : tie.Need-loop-less Inv-loop μ-loop
 loop-less c = search needs
 
 loop-again : tie.Need-loop-again Inv-loop μ-loop
-loop-again c = other-line (c .before .before .before .before .before .before .loop .inv) (c .before .before .before .before .before .loop-test .taken) (c .before .before .before .if1 .taken) (sym (c .if2 .left) ∙ c .before .stands .ensures)
+loop-again c =
+    let at-if1 = c .before .before .before in
+    let at-loop-test = at-if1 .before .before in
+    let at-loop = at-loop-test .before in
+    other-line (at-loop .loop .inv) (at-loop-test .loop-test .taken) (at-if1 .if1 .taken)
+    (sym (c .if2 .left) ∙ c .before .stands .ensures)
 
 loop-less-2 : tie.Need-loop-less-2 Inv-loop μ-loop
 loop-less-2 c = search needs
 
 loop-again-2 : tie.Need-loop-again-2 Inv-loop μ-loop
-loop-again-2 c = other-byte (c .before .before .before .loop .inv) (c .before .before .loop-test .taken) (c .if1 .left)
+loop-again-2 c =
+    let at-loop-test = c .before .before in
+    let at-loop = at-loop-test .before in
+    other-byte (at-loop .loop .inv) (at-loop-test .loop-test .taken) (c .if1 .left)
 
 returns-2 : tie.Need-returns-2 Inv-loop μ-loop
 returns-2 c = at-end (c .before .loop .inv) (c .loop-test .left)

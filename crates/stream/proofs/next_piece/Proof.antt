@@ -13,7 +13,9 @@ returns : tie.Need-returns
 returns c = empties _ _ (c .before .before .pre) _ (c .if1 .taken)
 
 slice-aggregate-next-message : tie.Need-slice-aggregate-next-message
-slice-aggregate-next-message c = sym (length-take-le _ _ (c .before .before .before .pre .high))
+slice-aggregate-next-message c =
+    let at-pre = c .before .before .before in
+    sym (length-take-le _ _ (at-pre .pre .high))
 
 next-message-requires : tie.Need-next-message-requires
 next-message-requires c κs = search needs
@@ -22,19 +24,38 @@ hand-requires : tie.Need-hand-requires
 hand-requires c κs = omega (arith, c .before .next-message .ensures .place)
 
 returns-2 : tie.Need-returns-2
-returns-2 c = subst (Steps (c .before .before .before .before .before .before .args .buf .now) (c .before .before .before .before .before .before .args .c) (c .before .before .before .before .before .before .args .last)) (sym (c .hand .ensures)) (hands-inside (c .before .before .before .before .before .before .args .buf .now) (c .before .before .before .before .before .before .args .c) (c .before .before .before .before .before .before .pre) (c .before .before .next-message .result) (c .before .before .next-message .ensures) (c .before .before .before .before .if1 .left) (c .before .before .before .before .before .before .args .last) (c .before .if2 .taken))
+returns-2 c =
+    let at-next-message = c .before .before in
+    let at-if1 = at-next-message .before .before in
+    let at-start = at-if1 .before .before in
+    subst (Steps (at-start .args .buf .now) (at-start .args .c) (at-start .args .last)) (sym (c .hand .ensures))
+    (hands-inside (at-start .args .buf .now) (at-start .args .c) (at-start .pre) (at-next-message .next-message .result)
+    (at-next-message .next-message .ensures) (at-if1 .if1 .left) (at-start .args .last) (c .before .if2 .taken))
 
 hand-requires-2 : tie.Need-hand-requires-2
 hand-requires-2 c κs = omega (arith, c .before .before .next-message .ensures .place)
 
 returns-3 : tie.Need-returns-3
-returns-3 c = subst (Steps (c .before .before .before .before .before .before .before .args .buf .now) (c .before .before .before .before .before .before .before .args .c) (c .before .before .before .before .before .before .before .args .last)) (sym (c .hand2 .ensures)) (hands-last (c .before .before .before .before .before .before .before .args .buf .now) (c .before .before .before .before .before .before .before .args .c) (c .before .before .before .before .before .before .before .pre) (c .before .before .before .next-message .result) (c .before .before .before .next-message .ensures) (c .before .before .before .before .before .if1 .left) (c .before .before .before .before .before .before .before .args .last) (c .before .if3 .taken))
+returns-3 c =
+    let at-next-message = c .before .before .before in
+    let at-if1 = at-next-message .before .before in
+    let at-start = at-if1 .before .before in
+    subst (Steps (at-start .args .buf .now) (at-start .args .c) (at-start .args .last)) (sym (c .hand2 .ensures))
+    (hands-last (at-start .args .buf .now) (at-start .args .c) (at-start .pre) (at-next-message .next-message .result)
+    (at-next-message .next-message .ensures) (at-if1 .if1 .left) (at-start .args .last) (c .before .if3 .taken))
 
 wait-requires : tie.Need-wait-requires
 wait-requires c κs = search needs
 
 returns-4 : tie.Need-returns-4
-returns-4 c = subst (Waits (c .before .before .before .before .before .before .before .args .buf .now) (c .before .before .before .before .before .before .before .args .c) (c .before .before .before .before .before .before .before .args .last)) (sym (c .wait .ensures)) (holds-back (c .before .before .before .before .before .before .before .args .buf .now) (c .before .before .before .before .before .before .before .args .c) (c .before .before .before .before .before .before .before .pre) (c .before .before .before .next-message .result) (c .before .before .before .next-message .ensures) (c .before .before .before .before .before .if1 .left) (c .before .before .before .before .before .before .before .args .last) (c .before .before .if2 .left) (c .before .if3 .left))
+returns-4 c =
+    let at-if2 = c .before .before in
+    let at-next-message = at-if2 .before in
+    let at-if1 = at-next-message .before .before in
+    let at-start = at-if1 .before .before in
+    subst (Waits (at-start .args .buf .now) (at-start .args .c) (at-start .args .last)) (sym (c .wait .ensures))
+    (holds-back (at-start .args .buf .now) (at-start .args .c) (at-start .pre) (at-next-message .next-message .result)
+    (at-next-message .next-message .ensures) (at-if1 .if1 .left) (at-start .args .last) (at-if2 .if2 .left) (c .before .if3 .left))
 
 pub next-piece-spec : {M : Type 1} → statement M
 next-piece-spec =

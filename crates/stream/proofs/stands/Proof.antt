@@ -33,7 +33,10 @@ shared-slice-read-if2-2 : tie.Need-shared-slice-read-if2-2 Inv-loop μ-loop
 shared-slice-read-if2-2 c = search needs
 
 returns-2 : tie.Need-returns-2 Inv-loop μ-loop
-returns-2 c = standing-not (c .before .before .before .before .loop .inv) (c .before .before .before .loop-test .taken) (omega arith) (c .if2 .taken)
+returns-2 c =
+    let at-loop-test = c .before .before .before in
+    let at-loop = at-loop-test .before in
+    standing-not (at-loop .loop .inv) (at-loop-test .loop-test .taken) (omega arith) (c .if2 .taken)
 
 add-i : tie.Need-add-i Inv-loop μ-loop
 add-i c = search needs
@@ -42,7 +45,10 @@ loop-less : tie.Need-loop-less Inv-loop μ-loop
 loop-less c = search needs
 
 loop-again : tie.Need-loop-again Inv-loop μ-loop
-loop-again c = standing-more (c .before .before .before .before .loop .inv) (c .before .before .before .loop-test .taken) (omega arith) (c .if2 .left)
+loop-again c =
+    let at-loop-test = c .before .before .before in
+    let at-loop = at-loop-test .before in
+    standing-more (at-loop .loop .inv) (at-loop-test .loop-test .taken) (omega arith) (c .if2 .left)
 
 returns-3 : tie.Need-returns-3 Inv-loop μ-loop
 returns-3 c = standing-all (c .before .loop .inv) (c .loop-test .left)

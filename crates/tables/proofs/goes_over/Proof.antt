@@ -19,7 +19,9 @@ passes-one-requires c κs = search needs
 -- src/lib.rt:91:9
 returns-2 : tie.Need-returns-2
 unfolding goesOver
-returns-2 c = rw (le-ltb _ _ (c .before .before .before .if1 .left), eq-eqb _ _ (c .before .if2 .taken)) (c .passes-one .ensures)
+returns-2 c =
+    let at-if1 = c .before .before .before in
+    rw (le-ltb _ _ (at-if1 .if1 .left), eq-eqb _ _ (c .before .if2 .taken)) (c .passes-one .ensures)
 
 -- src/lib.rt:83:1
 returns-3 : tie.Need-returns-3

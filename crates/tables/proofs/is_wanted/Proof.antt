@@ -21,7 +21,11 @@ turn-of-requires c κs = search needs
 -- src/lib.rt:107:13
 returns-2 : tie.Need-returns-2
 unfolding isWanted
-returns-2 c = rw (eq-eqb _ _ (c .before .before .before .if1 .left), eq-eqb _ _ (c .before .before .if2 .taken), eq-eqb _ _ (c .before .if3 .taken)) (ap (λ n. eqb n 1) (c .turn-of .ensures))
+returns-2 c =
+    let at-if2 = c .before .before in
+    let at-if1 = at-if2 .before in
+    rw (eq-eqb _ _ (at-if1 .if1 .left), eq-eqb _ _ (at-if2 .if2 .taken), eq-eqb _ _ (c .before .if3 .taken))
+    (ap (λ n. eqb n 1) (c .turn-of .ensures))
 
 -- src/lib.rt:109:9
 returns-3 : tie.Need-returns-3
@@ -31,12 +35,31 @@ returns-3 c = rw (eq-eqb _ _ (c .before .before .if1 .left), eq-eqb _ _ (c .befo
 -- src/lib.rt:113:13
 returns-4 : tie.Need-returns-4
 unfolding isWanted
-returns-4 c = rw (eq-eqb _ _ (c .before .before .before .if1 .left), ne-eqb _ _ (c .before .before .if2 .left), eq-eqb _ _ (c .before .if4 .taken), eq-eqb _ _ (c .if5 .taken))
+returns-4 c =
+    let at-if2 = c .before .before in
+    let at-if1 = at-if2 .before in
+    rw (
+      eq-eqb _ _ (at-if1 .if1 .left),
+      ne-eqb _ _ (at-if2 .if2 .left),
+      eq-eqb _ _ (c .before .if4 .taken),
+      eq-eqb _ _
+          (c .if5 .taken),
+    )
 
 -- src/lib.rt:115:9
 returns-5 : tie.Need-returns-5
 unfolding isWanted
-returns-5 c = rw (eq-eqb _ _ (c .before .before .before .before .if1 .left), ne-eqb _ _ (c .before .before .before .if2 .left), eq-eqb _ _ (c .before .before .if4 .taken), ne-eqb _ _ (c .before .if5 .left))
+returns-5 c =
+    let at-if4 = c .before .before in
+    let at-if2 = at-if4 .before in
+    let at-if1 = at-if2 .before in
+    rw (
+      eq-eqb _ _ (at-if1 .if1 .left),
+      ne-eqb _ _ (at-if2 .if2 .left),
+      eq-eqb _ _ (at-if4 .if4 .taken),
+      ne-eqb _ _
+          (c .before .if5 .left),
+    )
 
 -- src/lib.rt:97:1
 returns-6 : tie.Need-returns-6

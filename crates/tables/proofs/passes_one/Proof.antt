@@ -31,32 +31,86 @@ returns-3 c = rw (ne-eqb _ _ (c .before .before .if1 .left), eq-eqb _ _ (c .befo
 -- src/lib.rt:66:9
 returns-4 : tie.Need-returns-4
 unfolding passesOne
-returns-4 c = rw (ne-eqb _ _ (c .before .before .before .if1 .left), eq-eqb _ _ (c .before .before .if3 .taken), ne-eqb _ _ (c .before .if4 .left))
+returns-4 c =
+    let at-if3 = c .before .before in
+    let at-if1 = at-if3 .before in
+    rw (ne-eqb _ _ (at-if1 .if1 .left), eq-eqb _ _ (at-if3 .if3 .taken), ne-eqb _ _ (c .before .if4 .left))
 
 -- src/lib.rt:70:13
 returns-5 : tie.Need-returns-5
 unfolding passesOne
-returns-5 c = rw (ne-eqb _ _ (c .before .before .before .if1 .left), ne-eqb _ _ (c .before .before .if3 .left), eq-eqb _ _ (c .before .if5 .taken), eq-eqb _ _ (c .if6 .taken))
+returns-5 c =
+    let at-if3 = c .before .before in
+    let at-if1 = at-if3 .before in
+    rw (
+      ne-eqb _ _ (at-if1 .if1 .left),
+      ne-eqb _ _ (at-if3 .if3 .left),
+      eq-eqb _ _ (c .before .if5 .taken),
+      eq-eqb _ _
+          (c .if6 .taken),
+    )
 
 -- src/lib.rt:72:9
 returns-6 : tie.Need-returns-6
 unfolding passesOne
-returns-6 c = rw (ne-eqb _ _ (c .before .before .before .before .if1 .left), ne-eqb _ _ (c .before .before .before .if3 .left), eq-eqb _ _ (c .before .before .if5 .taken), ne-eqb _ _ (c .before .if6 .left))
+returns-6 c =
+    let at-if5 = c .before .before in
+    let at-if3 = at-if5 .before in
+    let at-if1 = at-if3 .before in
+    rw (
+      ne-eqb _ _ (at-if1 .if1 .left),
+      ne-eqb _ _ (at-if3 .if3 .left),
+      eq-eqb _ _ (at-if5 .if5 .taken),
+      ne-eqb _ _
+          (c .before .if6 .left),
+    )
 
 -- src/lib.rt:76:13
 returns-7 : tie.Need-returns-7
 unfolding passesOne
-returns-7 c = rw (ne-eqb _ _ (c .before .before .before .before .if1 .left), ne-eqb _ _ (c .before .before .before .if3 .left), ne-eqb _ _ (c .before .before .if5 .left), eq-eqb _ _ (c .before .if7 .taken), eq-eqb _ _ (c .if8 .taken))
+returns-7 c =
+    let at-if5 = c .before .before in
+    let at-if3 = at-if5 .before in
+    let at-if1 = at-if3 .before in
+    rw (
+      ne-eqb _ _ (at-if1 .if1 .left),
+      ne-eqb _ _ (at-if3 .if3 .left),
+      ne-eqb _ _ (at-if5 .if5 .left),
+      eq-eqb _ _
+          (c .before .if7 .taken),
+      eq-eqb _ _ (c .if8 .taken),
+    )
 
 -- src/lib.rt:78:9
 returns-8 : tie.Need-returns-8
 unfolding passesOne
-returns-8 c = rw (ne-eqb _ _ (c .before .before .before .before .before .if1 .left), ne-eqb _ _ (c .before .before .before .before .if3 .left), ne-eqb _ _ (c .before .before .before .if5 .left), eq-eqb _ _ (c .before .before .if7 .taken), ne-eqb _ _ (c .before .if8 .left))
+returns-8 c =
+    let at-if7 = c .before .before in
+    let at-if5 = at-if7 .before in
+    let at-if3 = at-if5 .before in
+    let at-if1 = at-if3 .before in
+    rw (
+      ne-eqb _ _ (at-if1 .if1 .left),
+      ne-eqb _ _ (at-if3 .if3 .left),
+      ne-eqb _ _ (at-if5 .if5 .left),
+      eq-eqb _ _
+          (at-if7 .if7 .taken),
+      ne-eqb _ _ (c .before .if8 .left),
+    )
 
 -- src/lib.rt:52:1
 returns-9 : tie.Need-returns-9
 unfolding passesOne
-returns-9 c = rw (ne-eqb _ _ (c .before .before .before .if1 .left), ne-eqb _ _ (c .before .before .if3 .left), ne-eqb _ _ (c .before .if5 .left), ne-eqb _ _ (c .if7 .left))
+returns-9 c =
+    let at-if3 = c .before .before in
+    let at-if1 = at-if3 .before in
+    rw (
+      ne-eqb _ _ (at-if1 .if1 .left),
+      ne-eqb _ _ (at-if3 .if3 .left),
+      ne-eqb _ _ (c .before .if5 .left),
+      ne-eqb _ _
+          (c .if7 .left),
+    )
 
 pub passes-one-spec : {M : Type 1} → statement M
 passes-one-spec =

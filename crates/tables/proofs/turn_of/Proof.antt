@@ -18,27 +18,83 @@ returns-2 c = rw (le-ltb _ _ (c .before .before .if1 .left), lt-ltb _ _ (c .if2 
 -- src/lib.rt:37:9
 returns-3 : tie.Need-returns-3
 unfolding order
-returns-3 c = rw (le-ltb _ _ (c .before .before .before .before .if1 .left), le-ltb _ _ (c .before .before .if2 .left), lt-ltb _ _ (c .if3 .taken), order)
+returns-3 c =
+    let at-if2 = c .before .before in
+    let at-if1 = at-if2 .before .before in
+    rw (le-ltb _ _ (at-if1 .if1 .left), le-ltb _ _ (at-if2 .if2 .left), lt-ltb _ _ (c .if3 .taken), order)
 
 -- src/lib.rt:40:9
 returns-4 : tie.Need-returns-4
 unfolding order
-returns-4 c = rw (le-ltb _ _ (c .before .before .before .before .before .before .if1 .left), le-ltb _ _ (c .before .before .before .before .if2 .left), le-ltb _ _ (c .before .before .if3 .left), lt-ltb _ _ (c .if4 .taken), order)
+returns-4 c =
+    let at-if3 = c .before .before in
+    let at-if2 = at-if3 .before .before in
+    let at-if1 = at-if2 .before .before in
+    rw (
+      le-ltb _ _ (at-if1 .if1 .left),
+      le-ltb _ _ (at-if2 .if2 .left),
+      le-ltb _ _ (at-if3 .if3 .left),
+      lt-ltb _ _ (c .if4 .taken),
+      order,
+    )
 
 -- src/lib.rt:43:9
 returns-5 : tie.Need-returns-5
 unfolding order
-returns-5 c = rw (le-ltb _ _ (c .before .before .before .before .before .before .before .before .if1 .left), le-ltb _ _ (c .before .before .before .before .before .before .if2 .left), le-ltb _ _ (c .before .before .before .before .if3 .left), le-ltb _ _ (c .before .before .if4 .left), lt-ltb _ _ (c .if5 .taken), order)
+returns-5 c =
+    let at-if4 = c .before .before in
+    let at-if3 = at-if4 .before .before in
+    let at-if2 = at-if3 .before .before in
+    let at-if1 = at-if2 .before .before in
+    rw (
+      le-ltb _ _ (at-if1 .if1 .left),
+      le-ltb _ _ (at-if2 .if2 .left),
+      le-ltb _ _ (at-if3 .if3 .left),
+      le-ltb _ _
+          (at-if4 .if4 .left),
+      lt-ltb _ _ (c .if5 .taken),
+      order,
+    )
 
 -- src/lib.rt:46:9
 returns-6 : tie.Need-returns-6
 unfolding order
-returns-6 c = rw (le-ltb _ _ (c .before .before .before .before .before .before .before .before .before .before .if1 .left), le-ltb _ _ (c .before .before .before .before .before .before .before .before .if2 .left), le-ltb _ _ (c .before .before .before .before .before .before .if3 .left), le-ltb _ _ (c .before .before .before .before .if4 .left), le-ltb _ _ (c .before .before .if5 .left), lt-ltb _ _ (c .if6 .taken), order)
+returns-6 c =
+    let at-if5 = c .before .before in
+    let at-if4 = at-if5 .before .before in
+    let at-if3 = at-if4 .before .before in
+    let at-if2 = at-if3 .before .before in
+    let at-if1 = at-if2 .before .before in
+    rw (
+      le-ltb _ _ (at-if1 .if1 .left),
+      le-ltb _ _ (at-if2 .if2 .left),
+      le-ltb _ _ (at-if3 .if3 .left),
+      le-ltb _ _
+          (at-if4 .if4 .left),
+      le-ltb _ _ (at-if5 .if5 .left),
+      lt-ltb _ _ (c .if6 .taken),
+      order,
+    )
 
 -- src/lib.rt:27:1
 returns-7 : tie.Need-returns-7
 unfolding order
-returns-7 c = rw (le-ltb _ _ (c .before .before .before .before .before .before .before .before .before .before .if1 .left), le-ltb _ _ (c .before .before .before .before .before .before .before .before .if2 .left), le-ltb _ _ (c .before .before .before .before .before .before .if3 .left), le-ltb _ _ (c .before .before .before .before .if4 .left), le-ltb _ _ (c .before .before .if5 .left), le-ltb _ _ (c .if6 .left), order)
+returns-7 c =
+    let at-if5 = c .before .before in
+    let at-if4 = at-if5 .before .before in
+    let at-if3 = at-if4 .before .before in
+    let at-if2 = at-if3 .before .before in
+    let at-if1 = at-if2 .before .before in
+    rw (
+      le-ltb _ _ (at-if1 .if1 .left),
+      le-ltb _ _ (at-if2 .if2 .left),
+      le-ltb _ _ (at-if3 .if3 .left),
+      le-ltb _ _
+          (at-if4 .if4 .left),
+      le-ltb _ _ (at-if5 .if5 .left),
+      le-ltb _ _ (c .if6 .left),
+      order,
+    )
 
 pub turn-of-spec : {M : Type 1} → statement M
 turn-of-spec =

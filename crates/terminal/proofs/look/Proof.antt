@@ -21,10 +21,23 @@ entry-requires : tie.Need-entry-requires
 entry-requires c κs = search needs
 
 returns-2 : tie.Need-returns-2
-returns-2 c = looks-cross _ _ _ _ _ (c .before .before .before .before .before .id-at .ensures) _ (c .before .before .before .before .repeated .ensures) (c .before .before .before .if1 .left) _ _ (c .before .before .own-at .ensures) (c .before .entry .ensures) (c .if2 .taken)
+returns-2 c =
+    let at-own-at = c .before .before in
+    let at-if1 = at-own-at .before in
+    let at-repeated = at-if1 .before in
+    let at-id-at = at-repeated .before in
+    looks-cross _ _ _ _ _ (at-id-at .id-at .ensures) _ (at-repeated .repeated .ensures) (at-if1 .if1 .left) _ _
+    (at-own-at .own-at .ensures) (c .before .entry .ensures) (c .if2 .taken)
 
 returns-3 : tie.Need-returns-3
-returns-3 c = looks-ahead _ _ _ _ _ (c .before .before .before .before .before .before .id-at .ensures) _ (c .before .before .before .before .before .repeated .ensures) (c .before .before .before .before .if1 .left) _ _ (c .before .before .before .own-at .ensures) (c .before .before .entry .ensures) (c .if3 .taken)
+returns-3 c =
+    let at-entry = c .before .before in
+    let at-own-at = at-entry .before in
+    let at-if1 = at-own-at .before in
+    let at-repeated = at-if1 .before in
+    let at-id-at = at-repeated .before in
+    looks-ahead _ _ _ _ _ (at-id-at .id-at .ensures) _ (at-repeated .repeated .ensures) (at-if1 .if1 .left) _ _
+    (at-own-at .own-at .ensures) (at-entry .entry .ensures) (c .if3 .taken)
 
 deps-at-requires : tie.Need-deps-at-requires
 deps-at-requires c κs = search needs
@@ -33,7 +46,17 @@ at-most-requires : tie.Need-at-most-requires
 at-most-requires c κs = search needs
 
 returns-4 : tie.Need-returns-4
-returns-4 c = looks-early _ _ _ _ _ (c .before .before .before .before .before .before .before .before .before .id-at .ensures) _ (c .before .before .before .before .before .before .before .before .repeated .ensures) (c .before .before .before .before .before .before .before .if1 .left) _ _ (c .before .before .before .before .before .before .own-at .ensures) (c .before .before .before .before .before .entry .ensures) (c .before .before .before .before .if2 .left) _ (c .before .before .deps-at .ensures) _ (c .before .at-most .ensures) (not-true _ (c .if4 .taken))
+returns-4 c =
+    let at-deps-at = c .before .before in
+    let at-if2 = at-deps-at .before .before in
+    let at-entry = at-if2 .before in
+    let at-own-at = at-entry .before in
+    let at-if1 = at-own-at .before in
+    let at-repeated = at-if1 .before in
+    let at-id-at = at-repeated .before in
+    looks-early _ _ _ _ _ (at-id-at .id-at .ensures) _ (at-repeated .repeated .ensures) (at-if1 .if1 .left) _ _
+    (at-own-at .own-at .ensures) (at-entry .entry .ensures) (at-if2 .if2 .left) _ (at-deps-at .deps-at .ensures) _
+    (c .before .at-most .ensures) (not-true _ (c .if4 .taken))
 
 op-at-requires : tie.Need-op-at-requires
 op-at-requires c κs = search needs

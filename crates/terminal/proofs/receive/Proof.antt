@@ -27,26 +27,35 @@ add-t42 c = search needs
 
 same-length : tie.Need-same-length
 same-length c =
+    let at-settle = c .before .before .before .before .before .before .before .before .before .before .before .before in
+    let at-apply = at-settle .before .before .before .before .before .before .before
+    .before .before .before .before .before .before .before .before .before .before .before in
     omega (
       arith,
-      (c .before .before .before .before .before .before .before .before .before .before .before .before .settle .kept),
-      (c .before .before .before .before .before .before .before .before .before .before .before .before .before .before .before .before .before .before .before .before .before .before .before .before .before .before .before .before .before .before .apply .kept),
+      (at-settle .settle .kept),
+      (at-apply .apply .kept),
     )
 
 same-length-2 : tie.Need-same-length-2
 same-length-2 c =
+    let at-settle = c .before .before .before .before .before .before .before .before .before .before .before .before in
+    let at-apply = at-settle .before .before .before .before .before .before .before
+    .before .before .before .before .before .before .before .before .before .before .before in
     omega (
       arith,
-      (c .before .before .before .before .before .before .before .before .before .before .before .before .settle .kept),
-      (c .before .before .before .before .before .before .before .before .before .before .before .before .before .before .before .before .before .before .before .before .before .before .before .before .before .before .before .before .before .before .apply .kept),
+      (at-settle .settle .kept),
+      (at-apply .apply .kept),
     )
 
 same-length-3 : tie.Need-same-length-3
 same-length-3 c =
+    let at-settle = c .before .before .before .before .before .before .before .before .before .before .before .before in
+    let at-apply = at-settle .before .before .before .before .before .before .before
+    .before .before .before .before .before .before .before .before .before .before .before in
     omega (
       arith,
-      (c .before .before .before .before .before .before .before .before .before .before .before .before .settle .kept),
-      (c .before .before .before .before .before .before .before .before .before .before .before .before .before .before .before .before .before .before .before .before .before .before .before .before .before .before .before .before .before .before .apply .kept),
+      (at-settle .settle .kept),
+      (at-apply .apply .kept),
     )
 
 same-length-4 : tie.Need-same-length-4
@@ -57,13 +66,14 @@ same-length-5 c = search needs
 
 returns-2 : tie.Need-returns-2
 returns-2 c =
-    receives-taken _ _ _ _ _
-    (c .before .before .before .before .before .before .before .before .before .before .before .before .before .before .before .before .before .before .before .before .before .before .before .before .before .before .before .before .before .before .before .before .before .before .before .before .before .before .before .before .take-message .ensures)
-    (not-false _ (c .before .before .before .before .before .before .before .before .before .before .before .before .before .before .before .before .before .before .before .before .before .before .before .before .before .before .before .before .before .before .before .before .before .before .before .before .before .before .if1 .left)) _ _
-    (c .before .before .before .before .before .before .before .before .before .before .before .before .before .before .before .before .before .before .before .before .before .before .before .before .before .before .before .before .before .before .apply .ensures)
-    (sym (c .before .before .before .before .before .before .before .before .before .before .before .before .before .before .before .before .before .before .before .before .before .is-taken .ensures)
-    ∙ (c .before .before .before .before .before .before .before .before .before .before .before .before .before .before .before .before .before .before .before .before .if2 .taken)) _ _ _
-    (c .before .before .before .before .before .before .before .before .before .before .before .before .settle .ensures)
+    let at-settle = c .before .before .before .before .before .before .before .before .before .before .before .before in
+    let at-if2 = at-settle .before .before .before .before .before .before .before .before in
+    let at-is-taken = at-if2 .before in
+    let at-apply = at-is-taken .before .before .before .before .before .before .before .before .before in
+    let at-if1 = at-apply .before .before .before .before .before .before .before .before in
+    let at-take-message = at-if1 .before .before in
+    receives-taken _ _ _ _ _ (at-take-message .take-message .ensures) (not-false _ (at-if1 .if1 .left)) _ _
+    (at-apply .apply .ensures) (sym (at-is-taken .is-taken .ensures) ∙ (at-if2 .if2 .taken)) _ _ _ (at-settle .settle .ensures)
 
 is-early-requires : tie.Need-is-early-requires
 is-early-requires c κs = search needs
@@ -88,12 +98,17 @@ same-length-10 c = search needs
 
 returns-3 : tie.Need-returns-3
 returns-3 c =
-    receives-early _ _ _ _ _
-    (c .before .before .before .before .before .before .before .before .before .before .before .before .before .before .before .before .before .before .before .before .before .before .before .before .before .before .take-message .ensures)
-    (not-false _ (c .before .before .before .before .before .before .before .before .before .before .before .before .before .before .before .before .before .before .before .before .before .before .before .before .if1 .left)) _ _
-    (c .before .before .before .before .before .before .before .before .before .before .before .before .before .before .before .before .apply .ensures)
-    (sym (c .before .before .before .before .before .before .before .is-taken .ensures) ∙ (c .before .before .before .before .before .before .if2 .left))
-    (sym (c .before .before .before .before .before .is-early .ensures) ∙ (c .before .before .before .before .if3 .taken)) _ _ (c .before .before .wait .ensures)
+    let at-wait = c .before .before in
+    let at-if3 = at-wait .before .before in
+    let at-is-early = at-if3 .before in
+    let at-if2 = at-is-early .before in
+    let at-is-taken = at-if2 .before in
+    let at-apply = at-is-taken .before .before .before .before .before .before .before .before .before in
+    let at-if1 = at-apply .before .before .before .before .before .before .before .before in
+    let at-take-message = at-if1 .before .before in
+    receives-early _ _ _ _ _ (at-take-message .take-message .ensures) (not-false _ (at-if1 .if1 .left)) _ _
+    (at-apply .apply .ensures) (sym (at-is-taken .is-taken .ensures) ∙ (at-if2 .if2 .left))
+    (sym (at-is-early .is-early .ensures) ∙ (at-if3 .if3 .taken)) _ _ (at-wait .wait .ensures)
 
 refusal-requires : tie.Need-refusal-requires
 refusal-requires c κs = search needs
@@ -112,12 +127,15 @@ same-length-14 c = search needs
 
 returns-4 : tie.Need-returns-4
 returns-4 c =
-    receives-refused _ _ _ _ _
-    (c .before .before .before .before .before .before .before .before .before .before .before .before .before .before .before .before .before .before .before .before .before .before .before .take-message .ensures)
-    (not-false _ (c .before .before .before .before .before .before .before .before .before .before .before .before .before .before .before .before .before .before .before .before .before .if1 .left)) _ _
-    (c .before .before .before .before .before .before .before .before .before .before .before .before .before .apply .ensures)
-    (sym (c .before .before .before .before .is-taken .ensures) ∙ (c .before .before .before .if2 .left))
-    (sym (c .before .before .is-early .ensures) ∙ (c .before .if3 .left)) _ (c .refusal .ensures)
+    let at-is-early = c .before .before in
+    let at-if2 = at-is-early .before in
+    let at-is-taken = at-if2 .before in
+    let at-apply = at-is-taken .before .before .before .before .before .before .before .before .before in
+    let at-if1 = at-apply .before .before .before .before .before .before .before .before in
+    let at-take-message = at-if1 .before .before in
+    receives-refused _ _ _ _ _ (at-take-message .take-message .ensures) (not-false _ (at-if1 .if1 .left)) _ _
+    (at-apply .apply .ensures) (sym (at-is-taken .is-taken .ensures) ∙ (at-if2 .if2 .left))
+    (sym (at-is-early .is-early .ensures) ∙ (c .before .if3 .left)) _ (c .refusal .ensures)
 
 pub receive-spec : {M : Type 1} → statement M
 receive-spec =

@@ -28,7 +28,9 @@ same-length-5 : tie.Need-same-length-5
 same-length-5 c = search needs
 
 returns : tie.Need-returns
-returns c = rounds-over _ _ _ _ _ (c .before .before .before .before .before .before .sweep .ensures) (not-true _ (c .if1 .taken))
+returns c =
+    let at-sweep = c .before .before .before .before .before .before in
+    rounds-over _ _ _ _ _ (at-sweep .sweep .ensures) (not-true _ (c .if1 .taken))
 
 op-at-requires : tie.Need-op-at-requires
 op-at-requires c κs = search needs
@@ -52,7 +54,12 @@ same-length-10 : tie.Need-same-length-10
 same-length-10 c = search needs
 
 returns-2 : tie.Need-returns-2
-returns-2 c = rounds-cut _ _ _ _ _ (c .before .before .before .before .before .before .before .before .before .before .before .before .before .sweep .ensures) (not-false _ (c .before .before .before .before .before .before .before .if1 .left)) _ _ (c .before .before .before .take-out .ensures) (c .if2 .taken)
+returns-2 c =
+    let at-take-out = c .before .before .before in
+    let at-if1 = at-take-out .before .before .before .before in
+    let at-sweep = at-if1 .before .before .before .before .before .before in
+    rounds-cut _ _ _ _ _ (at-sweep .sweep .ensures) (not-false _ (at-if1 .if1 .left)) _ _ (at-take-out .take-out .ensures)
+    (c .if2 .taken)
 
 take-requires : tie.Need-take-requires
 take-requires c κs = search needs
@@ -70,11 +77,22 @@ same-length-14 : tie.Need-same-length-14
 same-length-14 c = search needs
 
 same-length-15 : tie.Need-same-length-15
-same-length-15 c = omega (arith, c .before .before .before .before .before .before .before .before .before .before .before .before .before .before .before .before .before .before .before .before .take-out .kept, c .before .before .before .before .before .before .before .before .before .before .before .before .before .before .before .before .before .before .before .before .before .before .before .before .before .before .before .before .before .before .sweep .kept)
+same-length-15 c =
+    let at-take-out = c .before .before .before .before .before .before .before .before
+    .before .before .before .before .before .before .before .before .before .before .before .before in
+    let at-sweep = at-take-out .before .before .before .before .before .before .before .before .before .before in
+    omega (arith, at-take-out .take-out .kept, at-sweep .sweep .kept)
 
 returns-3 : tie.Need-returns-3
 returns-3 c =
-    rounds-on _ _ _ _ _ (c .before .before .before .before .before .before .before .before .before .before .before .before .before .before .before .before .before .before .before .before .before .before .before .before .before .before .before .before .before .before .sweep .ensures) (not-false _ (c .before .before .before .before .before .before .before .before .before .before .before .before .before .before .before .before .before .before .before .before .before .before .before .before .if1 .left)) _ _ (c .before .before .before .before .before .before .before .before .before .before .before .before .before .before .before .before .before .before .before .before .take-out .ensures) _ (c .before .before .before .before .before .before .before .before .before .before .before .before .before .before .before .before .before .before .before .before .before .before .op-at .ensures) _ _ (c .before .before .before .before .before .before .before .before .before .before .take .ensures) (c .before .before .before .before .before .before .before .before .before .before .before .before .before .before .before .before .before .if2 .left)
+    let at-take = c .before .before .before .before .before .before .before .before .before .before in
+    let at-if2 = at-take .before .before .before .before .before .before .before in
+    let at-take-out = at-if2 .before .before .before in
+    let at-op-at = at-take-out .before .before in
+    let at-if1 = at-op-at .before .before in
+    let at-sweep = at-if1 .before .before .before .before .before .before in
+    rounds-on _ _ _ _ _ (at-sweep .sweep .ensures) (not-false _ (at-if1 .if1 .left)) _ _ (at-take-out .take-out .ensures) _
+    (at-op-at .op-at .ensures) _ _ (at-take .take .ensures) (at-if2 .if2 .left)
 
 pub round-spec : {M : Type 1} → statement M
 round-spec =

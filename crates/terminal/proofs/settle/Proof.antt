@@ -34,48 +34,85 @@ round-requires : tie.Need-round-requires Inv-loop μ-loop
 round-requires c κs = search needs
 
 add-dropped : tie.Need-add-dropped Inv-loop μ-loop
-add-dropped c = omega (arith, c .before .before .before .before .before .before .before .before .before .before .before .before .before .before .before .before .before .before .loop .inv .0, c .before .before .before .before .before .before .before .before .before .before .before .before .before .before .before .before .before .before .loop .inv .1, c .before .before .before .before .before .before .before .before .before .before .before .before .round .ensures .fewer)
+add-dropped c =
+    let at-round = c .before .before .before .before .before .before .before .before .before .before .before .before in
+    let at-loop = at-round .before .before .before .before .before .before in
+    omega (arith, at-loop .loop .inv .0, at-loop .loop .inv .1, at-round .round .ensures .fewer)
 
 same-length : tie.Need-same-length Inv-loop μ-loop
-same-length c = omega (arith, c .before .before .before .before .before .before .before .before .before .before .before .before .before .before .before .before .before .before .before .before .loop .inv .2 .0, c .before .before .before .before .before .before .before .before .before .before .before .before .before .before .round .kept)
+same-length c =
+    let at-round = c .before .before .before .before .before
+    .before .before .before .before .before .before .before .before .before in
+    let at-loop = at-round .before .before .before .before .before .before in
+    omega (arith, at-loop .loop .inv .2 .0, at-round .round .kept)
 
 same-length-2 : tie.Need-same-length-2 Inv-loop μ-loop
-same-length-2 c = omega (arith, c .before .before .before .before .before .before .before .before .before .before .before .before .before .before .before .before .before .before .before .before .loop .inv .2 .1, c .before .before .before .before .before .before .before .before .before .before .before .before .before .before .round .kept)
+same-length-2 c =
+    let at-round = c .before .before .before .before .before
+    .before .before .before .before .before .before .before .before .before in
+    let at-loop = at-round .before .before .before .before .before .before in
+    omega (arith, at-loop .loop .inv .2 .1, at-round .round .kept)
 
 same-length-3 : tie.Need-same-length-3 Inv-loop μ-loop
-same-length-3 c = omega (arith, c .before .before .before .before .before .before .before .before .before .before .before .before .before .before .before .before .before .before .before .before .loop .inv .2 .2, c .before .before .before .before .before .before .before .before .before .before .before .before .before .before .round .kept)
+same-length-3 c =
+    let at-round = c .before .before .before .before .before
+    .before .before .before .before .before .before .before .before .before in
+    let at-loop = at-round .before .before .before .before .before .before in
+    omega (arith, at-loop .loop .inv .2 .2, at-round .round .kept)
 
 same-length-4 : tie.Need-same-length-4 Inv-loop μ-loop
-same-length-4 c = omega (arith, c .before .before .before .before .before .before .before .before .before .before .before .before .before .before .before .before .before .before .before .before .loop .inv .2 .3, c .before .before .before .before .before .before .before .before .before .before .before .before .before .before .round .kept)
+same-length-4 c =
+    let at-round = c .before .before .before .before .before
+    .before .before .before .before .before .before .before .before .before in
+    let at-loop = at-round .before .before .before .before .before .before in
+    omega (arith, at-loop .loop .inv .2 .3, at-round .round .kept)
 
 same-length-5 : tie.Need-same-length-5 Inv-loop μ-loop
-same-length-5 c = omega (arith, c .before .before .before .before .before .before .before .before .before .before .before .before .before .before .before .before .before .before .before .before .loop .inv .2 .4, c .before .before .before .before .before .before .before .before .before .before .before .before .before .before .round .kept)
+same-length-5 c =
+    let at-round = c .before .before .before .before .before
+    .before .before .before .before .before .before .before .before .before in
+    let at-loop = at-round .before .before .before .before .before .before in
+    omega (arith, at-loop .loop .inv .2 .4, at-round .round .kept)
 
 returns-2 : tie.Need-returns-2 Inv-loop μ-loop
-returns-2 c = record {
-  few = omega (arith, c .before .before .before .before .before .before .before .before .before .before .before .before .before .before .before .before .before .before .before .before .loop .inv .0, c .before .before .before .before .before .before .before .before .before .before .before .before .before .before .before .before .before .before .before .before .loop .inv .1);
-  settles = λ X K. comes-to-rest X _ _ _ _ _ _ _ _ (c .before .before .before .before .before .before .before .before .before .before .before .before .before .before .round .ensures) (c .before .before .before .before .before .before .before .before .before .before .before .before .before .before .before .before .before .before .before .before .loop .inv .3 X K) (not-true _ (c .if2 .taken));
-}
+returns-2 c =
+    let at-round = c .before .before .before .before .before
+    .before .before .before .before .before .before .before .before .before in
+    let at-loop = at-round .before .before .before .before .before .before in
+    record {
+      few = omega (arith, at-loop .loop .inv .0, at-loop .loop .inv .1);
+      settles = λ X K. comes-to-rest X _ _ _ _ _ _ _ _ (at-round .round .ensures) (at-loop .loop .inv .3 X K)
+          (not-true _ (c .if2 .taken));
+    }
 
 add-applied : tie.Need-add-applied Inv-loop μ-loop
-add-applied c = omega (arith, c .before .before .before .before .before .before .before .before .before .before .before .before .before .before .before .before .before .before .before .before .loop .inv .0, c .before .before .before .before .before .before .before .before .before .before .before .before .before .before .before .before .before .before .before .before .loop .inv .1)
+add-applied c =
+    let at-loop = c .before .before .before .before .before .before .before .before
+    .before .before .before .before .before .before .before .before .before .before .before .before in
+    omega (arith, at-loop .loop .inv .0, at-loop .loop .inv .1)
 
 loop-less : tie.Need-loop-less Inv-loop μ-loop
-loop-less c = omega (arith, c .before .before .before .before .before .before .before .before .before .before .before .before .before .before .round .ensures .less (not-false _ (c .if2 .left)))
+loop-less c =
+    let at-round = c .before .before .before .before .before
+    .before .before .before .before .before .before .before .before .before in
+    omega (arith, at-round .round .ensures .less (not-false _ (c .if2 .left)))
 
 loop-again : tie.Need-loop-again Inv-loop μ-loop
-loop-again c = (
-  omega (arith, c .before .before .before .before .before .before .before .before .before .before .before .before .before .before .before .before .before .before .before .before .loop .inv .0, c .before .before .before .before .before .before .before .before .before .before .before .before .before .before .round .ensures .less (not-false _ (c .if2 .left))),
-  c .before .before .before .before .before .before .before .before .before .before .before .before .before .before .before .before .before .before .before .before .loop .inv .1,
-  (
-    omega (arith, c .before .before .before .before .before .before .before .before .before .before .before .before .before .before .before .before .before .before .before .before .loop .inv .2 .0, c .before .before .before .before .before .before .before .before .before .before .before .before .before .before .round .kept),
-    omega (arith, c .before .before .before .before .before .before .before .before .before .before .before .before .before .before .before .before .before .before .before .before .loop .inv .2 .1, c .before .before .before .before .before .before .before .before .before .before .before .before .before .before .round .kept),
-    omega (arith, c .before .before .before .before .before .before .before .before .before .before .before .before .before .before .before .before .before .before .before .before .loop .inv .2 .2, c .before .before .before .before .before .before .before .before .before .before .before .before .before .before .round .kept),
-    omega (arith, c .before .before .before .before .before .before .before .before .before .before .before .before .before .before .before .before .before .before .before .before .loop .inv .2 .3, c .before .before .before .before .before .before .before .before .before .before .before .before .before .before .round .kept),
-    omega (arith, c .before .before .before .before .before .before .before .before .before .before .before .before .before .before .before .before .before .before .before .before .loop .inv .2 .4, c .before .before .before .before .before .before .before .before .before .before .before .before .before .before .round .kept),
-  ),
-  λ X K. goes-on X _ _ _ _ _ _ _ _ (c .before .before .before .before .before .before .before .before .before .before .before .before .before .before .round .ensures) (c .before .before .before .before .before .before .before .before .before .before .before .before .before .before .before .before .before .before .before .before .loop .inv .3 X K) (not-false _ (c .if2 .left)),
-)
+loop-again c =
+    let at-round = c .before .before .before .before .before
+    .before .before .before .before .before .before .before .before .before in
+    let at-loop = at-round .before .before .before .before .before .before in (
+      omega (arith, at-loop .loop .inv .0, at-round .round .ensures .less (not-false _ (c .if2 .left))),
+      at-loop .loop .inv .1,
+      (
+        omega (arith, at-loop .loop .inv .2 .0, at-round .round .kept),
+        omega (arith, at-loop .loop .inv .2 .1, at-round .round .kept),
+        omega (arith, at-loop .loop .inv .2 .2, at-round .round .kept),
+        omega (arith, at-loop .loop .inv .2 .3, at-round .round .kept),
+        omega (arith, at-loop .loop .inv .2 .4, at-round .round .kept),
+      ),
+      λ X K. goes-on X _ _ _ _ _ _ _ _ (at-round .round .ensures) (at-loop .loop .inv .3 X K) (not-false _ (c .if2 .left)),
+    )
 
 pub settle-spec : {M : Type 1} → statement M
 settle-spec =

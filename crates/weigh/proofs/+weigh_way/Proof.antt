@@ -101,21 +101,48 @@ weigh-way-weigh-way-requires : (t : ℕ) → weigh-way-lts.Need-weigh-way-requir
 weigh-way-weigh-way-requires t c κs = search needs
 
 weigh-way-mark-requires : (t : ℕ) → weigh-way-lts.Need-mark-requires (claims t) (weigh-way-at t) weigh-way.Post
-weigh-way-mark-requires t c κs = omega (arith, c .weigh-way .ensures .few-marks, c .before .weigh-way-arg .given .2, c .before .before .before .before .before .before .before .before .before .before .before .before .before .before .before .good .1 .1 .1 .1 .1 .1 .1 .1 .1 .1 .0 .1)
+weigh-way-mark-requires t c κs =
+    let at-good = c .before .before .before .before .before .before
+    .before .before .before .before .before .before .before .before .before in
+    omega (
+      arith,
+      c .weigh-way .ensures .few-marks,
+      c .before .weigh-way-arg .given .2,
+      at-good .good .1 .1 .1 .1 .1 .1 .1 .1 .1 .1
+          .0 .1,
+    )
 
 weigh-way-covered-requires : (t : ℕ) → weigh-way-lts.Need-covered-requires (claims t) (weigh-way-at t) weigh-way.Post
 weigh-way-covered-requires t c κs = search needs
 
 weigh-way-carry-requires : (t : ℕ) → weigh-way-lts.Need-carry-requires (claims t) (weigh-way-at t) weigh-way.Post
 weigh-way-carry-requires t c κs =
-    let e : c .before .mark .result .places ≡ c .before .before .weigh-way .result .places =
+    let at-weigh-way = c .before .before in
+    let at-weigh-way-arg = at-weigh-way .before in
+    let at-good = at-weigh-way-arg .before .before .before .before .before
+    .before .before .before .before .before .before .before .before .before in
+    let e : c .before .mark .result .places ≡ at-weigh-way .weigh-way .result .places =
     ap (λ u. u .places) (c .before .mark .ensures) ∙ marked-places _ _ in
-    omega (arith, e, c .before .before .weigh-way .ensures .few-places, c .before .before .before .weigh-way-arg .given .2, c .before .before .before .before .before .before .before .before .before .before .before .before .before .before .before .before .before .good .1 .1 .1 .1 .1 .1 .1 .1 .1 .1 .0 .1)
+    omega (
+      arith,
+      e,
+      at-weigh-way .weigh-way .ensures .few-places,
+      at-weigh-way-arg .weigh-way-arg .given .2,
+      at-good .good .1 .1 .1
+          .1 .1 .1 .1 .1 .1 .1 .0 .1,
+    )
 
 weigh-way-returns-4 : (t : ℕ) → weigh-way-lts.Need-returns-4 (claims t) (weigh-way-at t) weigh-way.Post
 weigh-way-returns-4 t c =
-    part-weighed _ _ _ _ _ _ _ _ _ _ _ _ _ _ _ _ _ (c .before .before .before .before .before .before .before .before .before .before .before .before .if1 .left) (c .before .before .before .before .before .before .before .if3 .left) (c .before .before .before .before .before .before .look .ensures) (c .before .before .before .before .before .past-row .ensures)
-    (c .before .before .before .weigh-way .ensures) (c .before .before .mark .ensures) (c .before .covered .ensures) (c .carry .ensures)
+    let at-mark = c .before .before in
+    let at-weigh-way = at-mark .before in
+    let at-past-row = at-weigh-way .before .before in
+    let at-look = at-past-row .before in
+    let at-if3 = at-look .before in
+    let at-if1 = at-if3 .before .before .before .before .before in
+    part-weighed _ _ _ _ _ _ _ _ _ _ _ _ _ _ _ _ _ (at-if1 .if1 .left) (at-if3 .if3 .left) (at-look .look .ensures)
+    (at-past-row .past-row .ensures) (at-weigh-way .weigh-way .ensures) (at-mark .mark .ensures) (c .before .covered .ensures)
+    (c .carry .ensures)
 
 pub +weigh-way-spec : {M : Type 1} → statement M
 +weigh-way-spec = close μ-weigh-way λ t. weigh-way-lts.spec (claims t)

@@ -8,11 +8,17 @@ use Rattle.weigh.proofs.carry.Tie as tie
 
 returns : tie.Need-returns
 unfolding carried
-returns c = rw (c .before .before .if1 .taken, c .before .if2 .taken, not-true (c .before .before .before .args .covers) (c .if3 .taken))
+returns c =
+    let at-if1 = c .before .before in
+    let at-start = at-if1 .before in
+    rw (at-if1 .if1 .taken, c .before .if2 .taken, not-true (at-start .args .covers) (c .if3 .taken))
 
 returns-2 : tie.Need-returns-2
 unfolding carried
-returns-2 c = rw (c .before .before .if1 .taken, c .before .if2 .taken, not-false (c .before .before .before .args .covers) (c .if3 .left))
+returns-2 c =
+    let at-if1 = c .before .before in
+    let at-start = at-if1 .before in
+    rw (at-if1 .if1 .taken, c .before .if2 .taken, not-false (at-start .args .covers) (c .if3 .left))
 
 returns-3 : tie.Need-returns-3
 unfolding carried
@@ -30,14 +36,20 @@ add-t9 c = search needs
 
 returns-5 : tie.Need-returns-5
 unfolding carried
-returns-5 c = rw (c .before .before .before .if1 .left, c .before .before .if4 .left, c .before .if5 .taken)
+returns-5 c =
+    let at-if4 = c .before .before in
+    let at-if1 = at-if4 .before in
+    rw (at-if1 .if1 .left, at-if4 .if4 .left, c .before .if5 .taken)
 
 weightless-requires-2 : tie.Need-weightless-requires-2
 weightless-requires-2 c κs = search needs
 
 returns-6 : tie.Need-returns-6
 unfolding carried
-returns-6 c = c .weightless2 .ensures ∙ rw (c .before .before .before .if1 .left, c .before .before .if4 .left, c .before .if5 .left)
+returns-6 c =
+    let at-if4 = c .before .before in
+    let at-if1 = at-if4 .before in
+    c .weightless2 .ensures ∙ rw (at-if1 .if1 .left, at-if4 .if4 .left, c .before .if5 .left)
 
 pub carry-spec : {M : Type 1} → statement M
 carry-spec =

@@ -23,19 +23,27 @@ enum-told c = search needs
 
 returns : tie.Need-returns
 unfolding deedNumber
-returns c = sym (ap deedNumber (c .before .before .before .deed .given .1) ∙ ap (λ b. cond b 1 2) (sym (c .before .plain .ensures) ∙ c .if1 .taken))
+returns c =
+    let at-deed = c .before .before .before in
+    sym (ap deedNumber (at-deed .deed .given .1) ∙ ap (λ b. cond b 1 2) (sym (c .before .plain .ensures) ∙ c .if1 .taken))
 
 returns-2 : tie.Need-returns-2
 unfolding deedNumber
-returns-2 c = sym (ap deedNumber (c .before .before .before .deed .given .1) ∙ ap (λ b. cond b 1 2) (sym (c .before .plain .ensures) ∙ c .if1 .left))
+returns-2 c =
+    let at-deed = c .before .before .before in
+    sym (ap deedNumber (at-deed .deed .given .1) ∙ ap (λ b. cond b 1 2) (sym (c .before .plain .ensures) ∙ c .if1 .left))
 
 returns-3 : tie.Need-returns-3
 unfolding deedNumber
-returns-3 c = sym (ap deedNumber (c .before .before .before .deed2 .given .1) ∙ ap (λ b. cond b 3 4) (sym (c .before .plain2 .ensures) ∙ c .if2 .taken))
+returns-3 c =
+    let at-deed2 = c .before .before .before in
+    sym (ap deedNumber (at-deed2 .deed2 .given .1) ∙ ap (λ b. cond b 3 4) (sym (c .before .plain2 .ensures) ∙ c .if2 .taken))
 
 returns-4 : tie.Need-returns-4
 unfolding deedNumber
-returns-4 c = sym (ap deedNumber (c .before .before .before .deed2 .given .1) ∙ ap (λ b. cond b 3 4) (sym (c .before .plain2 .ensures) ∙ c .if2 .left))
+returns-4 c =
+    let at-deed2 = c .before .before .before in
+    sym (ap deedNumber (at-deed2 .deed2 .given .1) ∙ ap (λ b. cond b 3 4) (sym (c .before .plain2 .ensures) ∙ c .if2 .left))
 
 returns-5 : tie.Need-returns-5
 unfolding deedNumber

@@ -23,7 +23,13 @@ add-t12 : tie.Need-add-t12
 add-t12 c = search needs
 
 returns : tie.Need-returns
-returns c = block-gone _ _ _ _ _ _ _ _ _ _ (c .before .before .before .before .before .before .before .gone-row .ensures) (c .before .before .before .before .before .before .past-row .ensures) (c .before .before .before .before .before .depth-at .ensures) (c .before .before .before .before .gone-under .ensures)
+returns c =
+    let at-gone-under = c .before .before .before .before in
+    let at-depth-at = at-gone-under .before in
+    let at-past-row = at-depth-at .before in
+    let at-gone-row = at-past-row .before in
+    block-gone _ _ _ _ _ _ _ _ _ _ (at-gone-row .gone-row .ensures) (at-past-row .past-row .ensures)
+    (at-depth-at .depth-at .ensures) (at-gone-under .gone-under .ensures)
 
 pub gone-spec : {M : Type 1} → statement M
 gone-spec =

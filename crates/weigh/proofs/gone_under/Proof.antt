@@ -25,10 +25,16 @@ returns-4 : tie.Need-returns-4 Inv-loop μ-loop
 returns-4 c = under-none _ _ _ _ _ _ _ (λ t q h. omega (arith, q, h .few, h .row, h .mark, h .value))
 
 loop-holds : tie.Need-loop-holds Inv-loop μ-loop
-loop-holds c = going-start _ _ _ _ _ _ _ (c .before .before .before .before .before .before .if1 .left) (c .before .before .before .before .if2 .left) (c .before .before .if3 .left) (c .if4 .left)
+loop-holds c =
+    let at-if3 = c .before .before in
+    let at-if2 = at-if3 .before .before in
+    let at-if1 = at-if2 .before .before in
+    going-start _ _ _ _ _ _ _ (at-if1 .if1 .left) (at-if2 .if2 .left) (at-if3 .if3 .left) (c .if4 .left)
 
 returns-5 : tie.Need-returns-5 Inv-loop μ-loop
-returns-5 c = going-out _ _ _ _ _ _ _ _ _ (c .before .before .before .loop .inv) (c .if6 .taken)
+returns-5 c =
+    let at-loop = c .before .before .before in
+    going-out _ _ _ _ _ _ _ _ _ (at-loop .loop .inv) (c .if6 .taken)
 
 mul-h : tie.Need-mul-h Inv-loop μ-loop
 mul-h c = search needs
@@ -37,7 +43,9 @@ shared-slice-read-h : tie.Need-shared-slice-read-h Inv-loop μ-loop
 shared-slice-read-h c = search needs
 
 returns-6 : tie.Need-returns-6 Inv-loop μ-loop
-returns-6 c = going-stop _ _ _ _ _ _ _ _ _ (c .before .before .before .before .before .loop .inv) (c .if7 .taken)
+returns-6 c =
+    let at-loop = c .before .before .before .before .before in
+    going-stop _ _ _ _ _ _ _ _ _ (at-loop .loop .inv) (c .if7 .taken)
 
 gone-row-requires : tie.Need-gone-row-requires Inv-loop μ-loop
 gone-row-requires c κs = search needs
@@ -61,7 +69,12 @@ loop-less : tie.Need-loop-less Inv-loop μ-loop
 loop-less c = search needs
 
 loop-again : tie.Need-loop-again Inv-loop μ-loop
-loop-again c = going-on _ _ _ _ _ _ _ _ _ (c .before .before .before .before .before .before .before .before .before .before .before .before .loop .inv) (c .before .before .before .before .before .before .before .before .before .before .if5 .taken) (c .before .before .before .before .before .before .before .if7 .left) _ (c .before .before .before .before .before .before .gone-row .ensures)
+loop-again c =
+    let at-gone-row = c .before .before .before .before .before .before in
+    let at-if7 = at-gone-row .before in
+    let at-if5 = at-if7 .before .before .before in
+    let at-loop = at-if5 .before .before in
+    going-on _ _ _ _ _ _ _ _ _ (at-loop .loop .inv) (at-if5 .if5 .taken) (at-if7 .if7 .left) _ (at-gone-row .gone-row .ensures)
 
 returns-7 : tie.Need-returns-7 Inv-loop μ-loop
 returns-7 c = going-end _ _ _ _ _ _ _ _ _ (c .before .before .loop .inv) (c .if5 .left)

@@ -19,7 +19,11 @@ known-requires : tie.Need-known-requires
 known-requires c κs = search needs
 
 returns-2 : tie.Need-returns-2
-returns-2 c = looks-found _ _ _ _ _ _ _ _ _ _ _ _ (not-false _ (c .before .before .before .if1 .left)) (c .before .before .want-of .ensures) (c .before .find .ensures) (c .known .ensures)
+returns-2 c =
+    let at-want-of = c .before .before in
+    let at-if1 = at-want-of .before in
+    looks-found _ _ _ _ _ _ _ _ _ _ _ _ (not-false _ (at-if1 .if1 .left)) (at-want-of .want-of .ensures) (c .before .find .ensures)
+    (c .known .ensures)
 
 pub look-spec : {M : Type 1} → statement M
 look-spec = tie.close (tie.spec returns want-of-requires find-requires known-requires returns-2)

@@ -12,13 +12,24 @@ lost-at-requires : tie.Need-lost-at-requires
 lost-at-requires c κs = search needs
 
 returns : tie.Need-returns
-returns c = place-weighed _ _ _ _ _ _ _ _ _ _ (c .before .lost-at .ensures) (sym (ap (λ b. cond b 0 1) (eq-eqb _ _ (c .if1 .taken)))) (sym (ap (λ b. cond b 1 0) (ne-eqb (c .before .before .before .before .before .args .deed) 1 (λ q. omega (arith, q, c .if1 .taken))))) (omega arith)
+returns c =
+    let at-start = c .before .before .before .before .before in
+    place-weighed _ _ _ _ _ _ _ _ _ _ (c .before .lost-at .ensures) (sym (ap (λ b. cond b 0 1) (eq-eqb _ _ (c .if1 .taken))))
+    (sym (ap (λ b. cond b 1 0) (ne-eqb (at-start .args .deed) 1 (λ q. omega (arith, q, c .if1 .taken))))) (omega arith)
 
 returns-2 : tie.Need-returns-2
-returns-2 c = place-weighed _ _ _ _ _ _ _ _ _ _ (c .before .before .lost-at .ensures) (sym (ap (λ b. cond b 0 1) (ne-eqb _ _ (c .before .if1 .left)))) (sym (ap (λ b. cond b 1 0) (eq-eqb _ _ (c .if2 .taken)))) (omega arith)
+returns-2 c =
+    let at-lost-at = c .before .before in
+    place-weighed _ _ _ _ _ _ _ _ _ _ (at-lost-at .lost-at .ensures)
+    (sym (ap (λ b. cond b 0 1) (ne-eqb _ _ (c .before .if1 .left)))) (sym (ap (λ b. cond b 1 0) (eq-eqb _ _ (c .if2 .taken))))
+    (omega arith)
 
 returns-3 : tie.Need-returns-3
-returns-3 c = place-weighed _ _ _ _ _ _ _ _ _ _ (c .before .before .lost-at .ensures) (sym (ap (λ b. cond b 0 1) (ne-eqb _ _ (c .before .if1 .left)))) (sym (ap (λ b. cond b 1 0) (ne-eqb _ _ (c .if2 .left)))) (omega arith)
+returns-3 c =
+    let at-lost-at = c .before .before in
+    place-weighed _ _ _ _ _ _ _ _ _ _ (at-lost-at .lost-at .ensures)
+    (sym (ap (λ b. cond b 0 1) (ne-eqb _ _ (c .before .if1 .left)))) (sym (ap (λ b. cond b 1 0) (ne-eqb _ _ (c .if2 .left))))
+    (omega arith)
 
 pub weigh-place-spec : {M : Type 1} → statement M
 weigh-place-spec = tie.close (tie.spec lost-at-requires returns returns-2 returns-3)

@@ -17,7 +17,12 @@ carry-requires : tie.Need-carry-requires
 carry-requires c κs = search needs
 
 returns : tie.Need-returns
-returns c = rw (c .carry .ensures, c .before .covered .ensures) (target-weighed _ _ _ _ _ _ _ _ _ _ _ _ _ _ _ (c .before .before .before .before .before .before .before .before .pre) (c .before .before .before .look .ensures) (c .before .before .weigh-place .ensures))
+returns c =
+    let at-weigh-place = c .before .before in
+    let at-look = at-weigh-place .before in
+    let at-pre = at-look .before .before .before .before .before in
+    rw (c .carry .ensures, c .before .covered .ensures)
+    (target-weighed _ _ _ _ _ _ _ _ _ _ _ _ _ _ _ (at-pre .pre) (at-look .look .ensures) (at-weigh-place .weigh-place .ensures))
 
 pub weigh-target-spec : {M : Type 1} → statement M
 weigh-target-spec =

@@ -10,9 +10,11 @@ use Rattle.words.proofs.close.Tie as tie
 
 returns : tie.Need-returns
 returns c =
-    let a = c .before .before .args in
-    let p = c .before .before .pre in
-    sym (ap (λ (to : ℕ). closed 0 (a .live) (a .from) to (a .t .now)) (c .if1 .taken) ∙ closed-none 0 (a .live) (a .from) (a .t .now) (p .1) (p .2))
+    let at-start = c .before .before in
+    let a = at-start .args in
+    let p = at-start .pre in
+    sym (ap (λ (to : ℕ). closed 0 (a .live) (a .from) to (a .t .now)) (c .if1 .taken) ∙ closed-none 0 (a .live) (a .from)
+    (a .t .now) (p .1) (p .2))
 
 sub-n : tie.Need-sub-n
 sub-n c = search needs
@@ -34,10 +36,13 @@ same-length c = search needs
 
 returns-2 : tie.Need-returns-2
 returns-2 c =
-    let a = c .before .before .before .before .before .before .before .before .before .before .args in
-    let p = c .before .before .before .before .before .before .before .before .before .before .pre in
-    lower-blank (a .live) (a .from) (a .to) (a .t .now) (c .before .before .before .before .before .before .lower .last .0) (c .before .before .blank .last .0) (p .0) (p .1) (p .2)
-    (c .before .before .before .before .before .before .lower .ensures) (c .before .before .blank .ensures)
+    let at-blank = c .before .before in
+    let at-lower = at-blank .before .before .before .before in
+    let at-start = at-lower .before .before .before .before in
+    let a = at-start .args in
+    let p = at-start .pre in
+    lower-blank (a .live) (a .from) (a .to) (a .t .now) (at-lower .lower .last .0) (at-blank .blank .last .0) (p .0) (p .1) (p .2)
+    (at-lower .lower .ensures) (at-blank .blank .ensures)
 
 pub close-spec : {M : Type 1} → statement M
 close-spec =

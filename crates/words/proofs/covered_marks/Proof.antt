@@ -42,8 +42,9 @@ loop-less c = omega arith
 
 loop-again : tie.Need-loop-again Inv-loop μ-loop
 loop-again c =
-    let a = c .before .before .before .before .before .before .before .before in
-    let l = c .before .before .before .before .before .loop in
+    let at-loop = c .before .before .before .before .before in
+    let a = at-loop .before .before .before in
+    let l = at-loop .loop in
     let p = uncovered (a .args .d .at) in
     let at = a .args .from + l .i in
     ⊎-elim
@@ -63,7 +64,8 @@ returns : tie.Need-returns Inv-loop μ-loop
 returns c =
     let a = c .before .before .before .before in
     let l = c .before .loop in
-    counting-marks (uncovered (a .args .d .at)) (a .args .from) (l .i) (a .args .n) (l .r) (a .args .t .now) (a .pre) (omega arith) (l .inv .1)
+    counting-marks (uncovered (a .args .d .at)) (a .args .from) (l .i) (a .args .n) (l .r) (a .args .t .now) (a .pre) (omega arith)
+    (l .inv .1)
 
 pub covered-marks-spec : {M : Type 1} → statement M
 covered-marks-spec =

@@ -42,8 +42,9 @@ loop-less c = omega arith
 
 loop-again : tie.Need-loop-again Inv-loop μ-loop
 loop-again c =
-    let a = c .before .before .before .before .before .before .before .before in
-    let l = c .before .before .before .before .before .loop in
+    let at-loop = c .before .before .before .before .before in
+    let a = at-loop .before .before .before in
+    let l = at-loop .loop in
     let p = uncovered (a .args .d .at) in
     ⊎-elim
     (λ s. (
@@ -64,7 +65,8 @@ returns : tie.Need-returns Inv-loop μ-loop
 returns c =
     let a = c .before .before .before .before in
     let l = c .before .loop in
-    counting-done 6 (uncovered (a .args .d .at)) (a .args .from) (l .i) (a .args .n) (l .r) (a .args .t .now) (omega arith) (l .inv .2)
+    counting-done 6 (uncovered (a .args .d .at)) (a .args .from) (l .i) (a .args .n) (l .r) (a .args .t .now) (omega arith)
+    (l .inv .2)
 
 pub covered-values-spec : {M : Type 1} → statement M
 covered-values-spec =

@@ -48,8 +48,9 @@ loop-less c = omega arith
 
 loop-again : tie.Need-loop-again Inv-loop μ-loop
 loop-again c =
-    let a = c .before .before .before .before .before .before .before .before in
-    let l = c .before .before .before .before .before .loop in
+    let at-loop = c .before .before .before .before .before in
+    let a = at-loop .before .before .before in
+    let l = at-loop .loop in
     let p = uncovered (a .args .d .at) in
     let at = a .args .from + l .i in
     ⊎-elim

@@ -45,15 +45,17 @@ loop-less c = omega arith
 
 loop-again : tie.Need-loop-again Inv-loop μ-loop
 loop-again c =
-    let a = c .before .before .before .before .before .before .before .before in
-    let l = c .before .before .before .before .before .loop in
+    let at-loop = c .before .before .before .before .before in
+    let a = at-loop .before .before .before in
+    let l = at-loop .loop in
     let p = uncovered (a .args .d .at) in
     ⊎-elim
     (λ s. (
       omega arith,
       omega arith,
       rw (s .5, s .6) (keeping-yes 6 p (a .args .from) (a .args .to) (l .i) (l .w) (l .at) (a .args .t .now) (l .t)
-          (a .pre .0) (l .inv .1) (omega arith) (l .inv .2) (ap not (sym (c .before .covers .ensures)) ∙ s .0 .taken) (s .2 .last .0) (s .2 .kept .0) (s .2 .ensures)),
+          (a .pre .0) (l .inv .1) (omega arith) (l .inv .2) (ap not (sym (c .before .covers .ensures)) ∙ s .0 .taken)
+          (s .2 .last .0) (s .2 .kept .0) (s .2 .ensures)),
     ))
     (λ s. (
       omega arith,

@@ -39,9 +39,13 @@ loop-less c = omega arith
 
 loop-again : tie.Need-loop-again Inv-loop μ-loop
 loop-again c =
-    let a = c .before .before .before in
-    let l = c .before .before .loop in
-    (omega arith, laying-step (a .args .at) (l .i) (a .args .w .now) (a .args .t .now) (l .t) (omega arith) (omega arith) (l .inv .1) _ refl)
+    let at-loop = c .before .before in
+    let a = at-loop .before in
+    let l = at-loop .loop in (
+      omega arith,
+      laying-step (a .args .at) (l .i) (a .args .w .now) (a .args .t .now) (l .t) (omega arith) (omega arith)
+          (l .inv .1) _ refl,
+    )
 
 same-length : tie.Need-same-length Inv-loop μ-loop
 same-length c = c .before .loop .inv .1 .len

@@ -41,10 +41,12 @@ loop-less c = omega arith
 
 loop-again : tie.Need-loop-again Inv-loop μ-loop
 loop-again c =
-    let a = c .before .before .before in
-    let l = c .before .before .loop in (
+    let at-loop = c .before .before in
+    let a = at-loop .before in
+    let l = at-loop .loop in (
       omega arith,
-      lower-step (a .args .from) (a .args .n) (a .args .to) (l .i) (a .args .t .now) (l .t) (a .pre .0) (a .pre .1) (omega arith) (l .inv .1),
+      lower-step (a .args .from) (a .args .n) (a .args .to) (l .i) (a .args .t .now) (l .t) (a .pre .0) (a .pre .1) (omega arith)
+          (l .inv .1),
     )
 
 same-length : tie.Need-same-length Inv-loop μ-loop

@@ -38,11 +38,13 @@ loop-less c = omega arith
 
 loop-again : tie.Need-loop-again Inv-loop μ-loop
 loop-again c =
-    let a = c .before .before .before in
-    let l = c .before .before .loop in (
+    let at-loop = c .before .before in
+    let a = at-loop .before in
+    let l = at-loop .loop in (
       omega arith,
       omega arith,
-      opening-step (a .args .live) (a .args .n) (l .i - 1) (a .args .t .now) (a .pre .1) (omega arith) (l .i) (l .t) (omega arith) (l .inv .2),
+      opening-step (a .args .live) (a .args .n) (l .i - 1) (a .args .t .now) (a .pre .1) (omega arith) (l .i) (l .t) (omega arith)
+          (l .inv .2),
     )
 
 same-length : tie.Need-same-length Inv-loop μ-loop

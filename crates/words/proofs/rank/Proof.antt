@@ -25,10 +25,12 @@ shared-slice-read-if1 c = omega arith
 
 returns : tie.Need-returns Inv-loop μ-loop
 returns c =
-    let a = c .before .before .before .before in
-    let l = c .before .before .before .loop in
+    let at-loop = c .before .before .before in
+    let a = at-loop .before in
+    let l = at-loop .loop in
     ranked-marks (a .args .id) (a .args .from) (a .args .n) (l .i) (a .args .t .now) (a .pre)
-    (ranking-stops 1 (a .args .id) (a .args .from) (a .args .n) (l .i) (a .args .from + l .i) (a .args .t .now) (omega arith) (omega arith) (l .inv)
+    (ranking-stops 1 (a .args .id) (a .args .from) (a .args .n) (l .i) (a .args .from + l .i) (a .args .t .now) (omega arith)
+    (omega arith) (l .inv)
     (c .if1 .taken))
 
 add-i : tie.Need-add-i Inv-loop μ-loop
@@ -39,9 +41,11 @@ loop-less c = omega arith
 
 loop-again : tie.Need-loop-again Inv-loop μ-loop
 loop-again c =
-    let a = c .before .before .before .before in
-    let l = c .before .before .before .loop in
-    ranking-goes 1 (a .args .id) (a .args .from) (a .args .n) (l .i) (a .args .from + l .i) (a .args .t .now) (omega arith) (omega arith) (l .inv)
+    let at-loop = c .before .before .before in
+    let a = at-loop .before in
+    let l = at-loop .loop in
+    ranking-goes 1 (a .args .id) (a .args .from) (a .args .n) (l .i) (a .args .from + l .i) (a .args .t .now) (omega arith)
+    (omega arith) (l .inv)
     (c .if1 .left)
 
 returns-2 : tie.Need-returns-2 Inv-loop μ-loop

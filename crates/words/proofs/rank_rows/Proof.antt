@@ -20,16 +20,25 @@ mul-if1 : tie.Need-mul-if1 Inv-loop μ-loop
 mul-if1 c = omega (arith, row-in (c .before .loop .i) (c .before .before .args .n) (c .before .before .args .w) (c .loop-test .taken))
 
 shared-slice-read-if1 : tie.Need-shared-slice-read-if1 Inv-loop μ-loop
-shared-slice-read-if1 c = omega (arith, row-in (c .before .before .loop .i) (c .before .before .before .args .n) (c .before .before .before .args .w) (c .before .loop-test .taken))
+shared-slice-read-if1 c =
+    let at-loop = c .before .before in
+    let at-start = at-loop .before in
+    omega (arith, row-in (at-loop .loop .i) (at-start .args .n) (at-start .args .w) (c .before .loop-test .taken))
 
 returns : tie.Need-returns Inv-loop μ-loop
 returns c =
-    let a = c .before .before .before .before in
-    let l = c .before .before .before .loop in
-    ranking-stops (a .args .w) (a .args .id) (a .args .from) (a .args .n) (l .i) (l .at) (a .args .t .now) (l .inv .0) (omega arith) (l .inv .1) (c .if1 .taken)
+    let at-loop = c .before .before .before in
+    let a = at-loop .before in
+    let l = at-loop .loop in
+    ranking-stops (a .args .w) (a .args .id) (a .args .from) (a .args .n) (l .i) (l .at) (a .args .t .now) (l .inv .0) (omega arith)
+    (l .inv .1) (c .if1 .taken)
 
 add-at : tie.Need-add-at Inv-loop μ-loop
-add-at c = omega (arith, row-in (c .before .before .before .loop .i) (c .before .before .before .before .args .n) (c .before .before .before .before .args .w) (c .before .before .loop-test .taken))
+add-at c =
+    let at-loop-test = c .before .before in
+    let at-loop = at-loop-test .before in
+    let at-start = at-loop .before in
+    omega (arith, row-in (at-loop .loop .i) (at-start .args .n) (at-start .args .w) (at-loop-test .loop-test .taken))
 
 add-i : tie.Need-add-i Inv-loop μ-loop
 add-i c = omega arith
@@ -39,10 +48,12 @@ loop-less c = omega arith
 
 loop-again : tie.Need-loop-again Inv-loop μ-loop
 loop-again c =
-    let a = c .before .before .before .before in
-    let l = c .before .before .before .loop in (
+    let at-loop = c .before .before .before in
+    let a = at-loop .before in
+    let l = at-loop .loop in (
       omega arith,
-      ranking-goes (a .args .w) (a .args .id) (a .args .from) (a .args .n) (l .i) (l .at) (a .args .t .now) (l .inv .0) (omega arith) (l .inv .1) (c .if1 .left),
+      ranking-goes (a .args .w) (a .args .id) (a .args .from) (a .args .n) (l .i) (l .at) (a .args .t .now) (l .inv .0)
+          (omega arith) (l .inv .1) (c .if1 .left),
     )
 
 returns-2 : tie.Need-returns-2 Inv-loop μ-loop

@@ -44,16 +44,32 @@ keep-requires : tie.Need-keep-requires
 keep-requires c κs = search needs
 
 same-length-6 : tie.Need-same-length-6
-same-length-6 c = omega (arith, c .before .before .before .before .before .before .before .before .before .before .before .before .before .before .before .before .before .before .before .before .before .before .before .before .before .before .before .before .before .before .before .receive-all .kept, c .before .before .before .before .before .before .before .before .before .before .keep .kept)
+same-length-6 c =
+    let at-keep = c .before .before .before .before .before .before .before .before .before .before in
+    let at-receive-all = at-keep .before .before .before .before .before .before .before .before .before
+    .before .before .before .before .before .before .before .before .before .before .before .before in
+    omega (arith, at-receive-all .receive-all .kept, at-keep .keep .kept)
 
 same-length-7 : tie.Need-same-length-7
-same-length-7 c = omega (arith, c .before .before .before .before .before .before .before .before .before .before .before .before .before .before .before .before .before .before .before .before .before .before .before .before .before .before .before .before .before .before .before .receive-all .kept, c .before .before .before .before .before .before .before .before .before .before .keep .kept)
+same-length-7 c =
+    let at-keep = c .before .before .before .before .before .before .before .before .before .before in
+    let at-receive-all = at-keep .before .before .before .before .before .before .before .before .before
+    .before .before .before .before .before .before .before .before .before .before .before .before in
+    omega (arith, at-receive-all .receive-all .kept, at-keep .keep .kept)
 
 same-length-8 : tie.Need-same-length-8
-same-length-8 c = omega (arith, c .before .before .before .before .before .before .before .before .before .before .before .before .before .before .before .before .before .before .before .before .before .before .before .before .before .before .before .before .before .before .before .receive-all .kept, c .before .before .before .before .before .before .before .before .before .before .keep .kept)
+same-length-8 c =
+    let at-keep = c .before .before .before .before .before .before .before .before .before .before in
+    let at-receive-all = at-keep .before .before .before .before .before .before .before .before .before
+    .before .before .before .before .before .before .before .before .before .before .before .before in
+    omega (arith, at-receive-all .receive-all .kept, at-keep .keep .kept)
 
 same-length-9 : tie.Need-same-length-9
-same-length-9 c = omega (arith, c .before .before .before .before .before .before .before .before .before .before .before .before .before .before .before .before .before .before .before .before .before .before .before .before .before .before .before .before .before .before .before .receive-all .kept, c .before .before .before .before .before .before .before .before .before .before .keep .kept)
+same-length-9 c =
+    let at-keep = c .before .before .before .before .before .before .before .before .before .before in
+    let at-receive-all = at-keep .before .before .before .before .before .before .before .before .before
+    .before .before .before .before .before .before .before .before .before .before .before .before in
+    omega (arith, at-receive-all .receive-all .kept, at-keep .keep .kept)
 
 same-length-10 : tie.Need-same-length-10
 same-length-10 c = search needs

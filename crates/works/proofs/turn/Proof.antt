@@ -31,16 +31,35 @@ save-requires : tie.Need-save-requires
 save-requires c κs = search needs
 
 same-length : tie.Need-same-length
-same-length c = omega (arith, c .before .before .before .before .before .before .before .before .before .before .before .before .before .before .before .before .before .before .before .before .before .before .before .before .before .before .before .before .before .before .before .before .before .before .before .before .before .before .before .before .before .before .before .copy .kept, c .before .before .before .before .before .before .before .before .before .before .before .before .before .before .before .before .before .before .before .receive-all .kept)
+same-length c =
+    let at-receive-all = c .before .before .before .before .before .before .before .before
+    .before .before .before .before .before .before .before .before .before .before .before in
+    let at-copy = at-receive-all .before .before .before .before .before .before .before .before .before .before
+    .before .before .before .before .before .before .before .before .before .before .before .before .before .before in
+    omega (arith, at-copy .copy .kept, at-receive-all .receive-all .kept)
 
 same-length-2 : tie.Need-same-length-2
-same-length-2 c = omega (arith, c .before .before .before .before .before .before .before .before .before .before .before .before .before .before .before .before .before .before .before .before .before .before .before .before .before .before .before .before .before .before .before .before .before .before .before .before .before .before .before .copy2 .kept, c .before .before .before .before .before .before .before .before .before .before .before .before .before .before .before .before .before .before .before .receive-all .kept)
+same-length-2 c =
+    let at-receive-all = c .before .before .before .before .before .before .before .before
+    .before .before .before .before .before .before .before .before .before .before .before in
+    let at-copy2 = at-receive-all .before .before .before .before .before .before .before .before
+    .before .before .before .before .before .before .before .before .before .before .before .before in
+    omega (arith, at-copy2 .copy2 .kept, at-receive-all .receive-all .kept)
 
 same-length-3 : tie.Need-same-length-3
-same-length-3 c = omega (arith, c .before .before .before .before .before .before .before .before .before .before .before .before .before .before .before .before .before .before .before .before .before .before .before .before .before .before .before .before .before .before .before .before .before .before .before .copy3 .kept, c .before .before .before .before .before .before .before .before .before .before .before .before .before .before .before .before .before .before .before .receive-all .kept)
+same-length-3 c =
+    let at-receive-all = c .before .before .before .before .before .before .before .before
+    .before .before .before .before .before .before .before .before .before .before .before in
+    let at-copy3 = at-receive-all .before .before .before .before .before .before
+    .before .before .before .before .before .before .before .before .before .before in
+    omega (arith, at-copy3 .copy3 .kept, at-receive-all .receive-all .kept)
 
 same-length-4 : tie.Need-same-length-4
-same-length-4 c = omega (arith, c .before .before .before .before .before .before .before .before .before .before .before .before .before .before .before .before .before .before .before .before .before .before .before .before .before .before .before .before .before .before .before .copy4 .kept, c .before .before .before .before .before .before .before .before .before .before .before .before .before .before .before .before .before .before .before .receive-all .kept)
+same-length-4 c =
+    let at-receive-all = c .before .before .before .before .before .before .before .before
+    .before .before .before .before .before .before .before .before .before .before .before in
+    let at-copy4 = at-receive-all .before .before .before .before .before .before .before .before .before .before .before .before in
+    omega (arith, at-copy4 .copy4 .kept, at-receive-all .receive-all .kept)
 
 same-length-5 : tie.Need-same-length-5
 same-length-5 c = search needs

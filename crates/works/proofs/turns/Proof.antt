@@ -9,12 +9,14 @@ use Rattle.works.proofs.turns.Lts as lts
 use Rattle.works.proofs.turn.Reads as turn-reads
 
 abbrev Inv-loop : tie.InvT-loop
-Inv-loop text heads₀ keys₀ marks₀ values₀ waiting₀ built-heads built-keys built-marks built-values built-waiting built buf₀ count last₀ left₀ heads keys marks values waiting buf last left =
+Inv-loop text heads₀ keys₀ marks₀ values₀ waiting₀ built-heads built-keys built-marks built-values built-waiting built buf₀ count
+    last₀ left₀ heads keys marks values waiting buf last left =
     (length heads ≡ length heads₀) × (length keys ≡ length keys₀) × (length marks ≡ length marks₀) × (length values ≡ length values₀)
     × (length waiting ≡ length waiting₀) × (length buf ≡ length buf₀)
 
 abbrev μ-loop : tie.MeasureT-loop
-μ-loop text heads₀ keys₀ marks₀ values₀ waiting₀ built-heads built-keys built-marks built-values built-waiting built buf₀ count last₀ left₀ heads keys marks values waiting buf last left =
+μ-loop text heads₀ keys₀ marks₀ values₀ waiting₀ built-heads built-keys built-marks built-values built-waiting built buf₀ count
+    last₀ left₀ heads keys marks values waiting buf last left =
     left
 
 loop-holds : tie.Need-loop-holds Inv-loop μ-loop
@@ -24,13 +26,30 @@ turn-requires : tie.Need-turn-requires Inv-loop μ-loop
 turn-requires c κs = tt
 
 sub-left : tie.Need-sub-left Inv-loop μ-loop
-sub-left c = omega (arith, c .before .before .before .before .before .before .before .before .before .before .before .before .before .before .before .before .before .before .before .loop-test .taken)
+sub-left c =
+    let at-loop-test = c .before .before .before .before .before .before .before .before
+    .before .before .before .before .before .before .before .before .before .before .before in
+    omega (arith, at-loop-test .loop-test .taken)
 
 loop-less : tie.Need-loop-less Inv-loop μ-loop
-loop-less c = omega (arith, c .before .before .before .before .before .before .before .before .before .before .before .before .before .before .before .before .before .before .before .loop-test .taken)
+loop-less c =
+    let at-loop-test = c .before .before .before .before .before .before .before .before
+    .before .before .before .before .before .before .before .before .before .before .before in
+    omega (arith, at-loop-test .loop-test .taken)
 
 loop-again : tie.Need-loop-again Inv-loop μ-loop
-loop-again c = (omega (arith, c .before .before .before .before .before .before .before .before .before .before .before .before .before .before .before .before .before .before .before .before .loop .inv .0, c .before .before .before .before .before .before .before .before .before .before .before .before .turn .kept), omega (arith, c .before .before .before .before .before .before .before .before .before .before .before .before .before .before .before .before .before .before .before .before .loop .inv .1, c .before .before .before .before .before .before .before .before .before .before .before .before .turn .kept), omega (arith, c .before .before .before .before .before .before .before .before .before .before .before .before .before .before .before .before .before .before .before .before .loop .inv .2, c .before .before .before .before .before .before .before .before .before .before .before .before .turn .kept), omega (arith, c .before .before .before .before .before .before .before .before .before .before .before .before .before .before .before .before .before .before .before .before .loop .inv .3, c .before .before .before .before .before .before .before .before .before .before .before .before .turn .kept), omega (arith, c .before .before .before .before .before .before .before .before .before .before .before .before .before .before .before .before .before .before .before .before .loop .inv .4, c .before .before .before .before .before .before .before .before .before .before .before .before .turn .kept), omega (arith, c .before .before .before .before .before .before .before .before .before .before .before .before .before .before .before .before .before .before .before .before .loop .inv .5, c .before .before .before .before .before .before .before .before .before .before .before .before .turn .kept))
+loop-again c =
+    let at-turn = c .before .before .before .before .before .before .before .before .before .before .before .before in
+    let at-loop = at-turn .before .before .before .before .before .before .before .before in (
+      omega (arith, at-loop .loop .inv .0, at-turn .turn .kept),
+      omega (arith, at-loop .loop .inv .1, at-turn .turn .kept),
+      omega
+          (arith, at-loop .loop .inv .2, at-turn .turn .kept),
+      omega (arith, at-loop .loop .inv .3, at-turn .turn .kept),
+      omega
+          (arith, at-loop .loop .inv .4, at-turn .turn .kept),
+      omega (arith, at-loop .loop .inv .5, at-turn .turn .kept),
+    )
 
 same-length : tie.Need-same-length Inv-loop μ-loop
 same-length c = omega (arith, c .before .loop .inv .0)

@@ -41,7 +41,9 @@ add-n : tie.Need-add-n Inv-loop μ-loop
 add-n c = search needs
 
 add-n-2 : tie.Need-add-n-2 Inv-loop μ-loop
-add-n-2 c = record { fits = omega (arith, c .before .before .before .loop .inv .most, c .before .before .before .loop .inv .high, c .decimal-size2 .ensures .2) }
+add-n-2 c =
+    let at-loop = c .before .before .before in
+    record { fits = omega (arith, at-loop .loop .inv .most, at-loop .loop .inv .high, c .decimal-size2 .ensures .2) }
 
 add-i : tie.Need-add-i Inv-loop μ-loop
 add-i c = search needs
@@ -50,7 +52,11 @@ loop-less : tie.Need-loop-less Inv-loop μ-loop
 loop-less c = search needs
 
 loop-again : tie.Need-loop-again Inv-loop μ-loop
-loop-again c = adding-more _ (search needs) (c .before .before .before .loop .inv) (c .before .before .loop-test .taken) (c .before .wide2 .ensures) (c .decimal-size2 .ensures .0) (c .decimal-size2 .ensures .2)
+loop-again c =
+    let at-loop-test = c .before .before in
+    let at-loop = at-loop-test .before in
+    adding-more _ (search needs) (at-loop .loop .inv) (at-loop-test .loop-test .taken) (c .before .wide2 .ensures)
+    (c .decimal-size2 .ensures .0) (c .decimal-size2 .ensures .2)
 
 returns : tie.Need-returns Inv-loop μ-loop
 returns c = added _ (search needs) (c .before .loop .inv) (c .loop-test .left)

@@ -2,7 +2,8 @@
 -- Assumes nothing.
 use native.Mathlib.Omega.{arith}
 use mathlib.Core.Path.{refl}
-use Rattle.writers.proofs.Plain.{null-text, true-text, false-text, nonneg-text, neg-text, string-text, neg-bound, string-bound, string-sized}
+use Rattle.writers.proofs.Plain.{null-text, true-text, false-text, nonneg-text}
+use Rattle.writers.proofs.Plain.{neg-text, string-text, neg-bound, string-bound, string-sized}
 use Rattle.writers.proofs.Texts.{sized}
 use borrow.Author.Needs.{needs}
 use Rattle.writers.proofs.plain_size.Statement.{statement}
@@ -30,7 +31,9 @@ enum-known-kind-2 : tie.Need-enum-known-kind-2
 enum-known-kind-2 c = search needs
 
 add-decimal-size : tie.Need-add-decimal-size
-add-decimal-size c = let b = neg-bound (c .before .kind2 .given .1) (c .before .before .before .pre .1) in search needs
+add-decimal-size c =
+    let at-pre = c .before .before .before in
+    let b = neg-bound (c .before .kind2 .given .1) (at-pre .pre .1) in search needs
 
 decimal-size-requires-2 : tie.Need-decimal-size-requires-2
 decimal-size-requires-2 c κs = search needs
@@ -42,10 +45,14 @@ enum-known-kind-3 : tie.Need-enum-known-kind-3
 enum-known-kind-3 c = search needs
 
 mul-result : tie.Need-mul-result
-mul-result c = let b = string-bound (c .before .kind3 .given .1) (c .before .before .before .pre .1) in search needs
+mul-result c =
+    let at-pre = c .before .before .before in
+    let b = string-bound (c .before .kind3 .given .1) (at-pre .pre .1) in search needs
 
 add-result-3 : tie.Need-add-result-3
-add-result-3 c = let b = string-bound (c .before .kind3 .given .1) (c .before .before .before .pre .1) in search needs
+add-result-3 c =
+    let at-pre = c .before .before .before in
+    let b = string-bound (c .before .kind3 .given .1) (at-pre .pre .1) in search needs
 
 returns : tie.Need-returns
 returns c = sized _ (null-text _ (c .enum-told .given .1)) refl (omega arith)
@@ -63,7 +70,9 @@ returns-5 : tie.Need-returns-5
 returns-5 c = sized _ (neg-text _ (c .before .before .kind2 .given .1)) (omega (arith, c .decimal-size2 .ensures .0)) (omega arith)
 
 returns-6 : tie.Need-returns-6
-returns-6 c = string-sized _ (string-text _ (c .before .kind3 .given .1)) (string-bound (c .before .kind3 .given .1) (c .before .before .before .pre .1))
+returns-6 c =
+    let at-pre = c .before .before .before in
+    string-sized _ (string-text _ (c .before .kind3 .given .1)) (string-bound (c .before .kind3 .given .1) (at-pre .pre .1))
 
 pub plain-size-spec : {M : Type 1} → statement M
 plain-size-spec =

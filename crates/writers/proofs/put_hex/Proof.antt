@@ -24,22 +24,40 @@ hex-digit-requires : tie.Need-hex-digit-requires Inv-loop μ-loop
 hex-digit-requires c κs = search needs
 
 mul-buf : tie.Need-mul-buf Inv-loop μ-loop
-mul-buf c = record { fits = omega (arith, size-hex (c .before .before .before .before .before .before .args .words .now) (c .before .before .before .before .before .before .args .n)) }
+mul-buf c =
+    let at-start = c .before .before .before .before .before .before in
+    record { fits = omega (arith, size-hex (at-start .args .words .now) (at-start .args .n)) }
 
 slice-write-buf : tie.Need-slice-write-buf Inv-loop μ-loop
-slice-write-buf c = omega (arith, size-hex (c .before .before .before .before .before .before .args .words .now) (c .before .before .before .before .before .before .args .n), c .before .before .before .loop .inv .long)
+slice-write-buf c =
+    let at-loop = c .before .before .before in
+    let at-start = at-loop .before .before .before in
+    omega (arith, size-hex (at-start .args .words .now) (at-start .args .n), at-loop .loop .inv .long)
 
 hex-digit-requires-2 : tie.Need-hex-digit-requires-2 Inv-loop μ-loop
 hex-digit-requires-2 c κs = search needs
 
 mul-buf-2 : tie.Need-mul-buf-2 Inv-loop μ-loop
-mul-buf-2 c = record { fits = omega (arith, size-hex (c .before .before .before .before .before .before .before .args .words .now) (c .before .before .before .before .before .before .before .args .n)) }
+mul-buf-2 c =
+    let at-start = c .before .before .before .before .before .before .before in
+    record { fits = omega (arith, size-hex (at-start .args .words .now) (at-start .args .n)) }
 
 add-buf : tie.Need-add-buf Inv-loop μ-loop
-add-buf c = record { fits = omega (arith, size-hex (c .before .before .before .before .before .before .before .args .words .now) (c .before .before .before .before .before .before .before .args .n)) }
+add-buf c =
+    let at-start = c .before .before .before .before .before .before .before in
+    record { fits = omega (arith, size-hex (at-start .args .words .now) (at-start .args .n)) }
 
 slice-write-buf-2 : tie.Need-slice-write-buf-2 Inv-loop μ-loop
-slice-write-buf-2 c = omega (arith, size-hex (c .before .before .before .before .before .before .before .args .words .now) (c .before .before .before .before .before .before .before .args .n), length-set (c .before .before .before .before .loop .buf) (2 * c .before .before .before .before .loop .i) (c .before .hex-digit .result), c .before .before .before .before .loop .inv .long)
+slice-write-buf-2 c =
+    let at-loop = c .before .before .before .before in
+    let at-start = at-loop .before .before .before in
+    omega (
+      arith,
+      size-hex (at-start .args .words .now) (at-start .args .n),
+      length-set (at-loop .loop .buf) (2 * at-loop .loop .i)
+          (c .before .hex-digit .result),
+      at-loop .loop .inv .long,
+    )
 
 add-i : tie.Need-add-i Inv-loop μ-loop
 add-i c = search needs
@@ -48,10 +66,18 @@ loop-less : tie.Need-loop-less Inv-loop μ-loop
 loop-less c = search needs
 
 loop-again : tie.Need-loop-again Inv-loop μ-loop
-loop-again c = hexing-more (c .before .before .before .before .loop .inv) (c .before .before .before .before .before .before .before .pre .1) (c .before .before .before .loop-test .taken) (c .before .before .byte-of .ensures) (c .before .hex-digit .ensures) (c .hex-digit2 .ensures)
+loop-again c =
+    let at-byte-of = c .before .before in
+    let at-loop-test = at-byte-of .before in
+    let at-loop = at-loop-test .before in
+    let at-pre = at-loop .before .before .before in
+    hexing-more (at-loop .loop .inv) (at-pre .pre .1) (at-loop-test .loop-test .taken) (at-byte-of .byte-of .ensures)
+    (c .before .hex-digit .ensures) (c .hex-digit2 .ensures)
 
 mul-result : tie.Need-mul-result Inv-loop μ-loop
-mul-result c = record { fits = omega (arith, size-hex (c .before .before .before .before .args .words .now) (c .before .before .before .before .args .n), c .before .loop .inv .most) }
+mul-result c =
+    let at-start = c .before .before .before .before in
+    record { fits = omega (arith, size-hex (at-start .args .words .now) (at-start .args .n), c .before .loop .inv .most) }
 
 same-length : tie.Need-same-length Inv-loop μ-loop
 same-length c = c .before .loop .inv .long

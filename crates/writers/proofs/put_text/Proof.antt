@@ -37,7 +37,10 @@ loop-less c = search needs
 
 -- src/lib.rt:17:5
 loop-again : tie.Need-loop-again Inv-loop μ-loop
-loop-again c = copy-more (c .before .before .loop .inv) (c .before .before .before .pre) (c .before .loop-test .taken)
+loop-again c =
+    let at-loop = c .before .before in
+    let at-pre = at-loop .before in
+    copy-more (at-loop .loop .inv) (at-pre .pre) (c .before .loop-test .taken)
 
 -- src/lib.rt:12:1
 same-length : tie.Need-same-length Inv-loop μ-loop

@@ -24,7 +24,10 @@ same-length : tie.Need-same-length
 same-length c = search needs
 
 returns : tie.Need-returns
-returns c = came-back _ _ _ (c .before .before .before .before .before .pre .1) (c .before .before .put-counters .ensures)
+returns c =
+    let at-put-counters = c .before .before in
+    let at-pre = at-put-counters .before .before .before in
+    came-back _ _ _ (at-pre .pre .1) (at-put-counters .put-counters .ensures)
 
 pub then-counters-spec : {M : Type 1} → statement M
 then-counters-spec =

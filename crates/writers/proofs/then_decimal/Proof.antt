@@ -24,7 +24,10 @@ same-length : tie.Need-same-length
 same-length c = search needs
 
 returns : tie.Need-returns
-returns c = came-back _ _ _ (c .before .before .before .before .before .pre .1) (c .before .before .put-decimal .ensures)
+returns c =
+    let at-put-decimal = c .before .before in
+    let at-pre = at-put-decimal .before .before .before in
+    came-back _ _ _ (at-pre .pre .1) (at-put-decimal .put-decimal .ensures)
 
 pub then-decimal-spec : {M : Type 1} → statement M
 then-decimal-spec =

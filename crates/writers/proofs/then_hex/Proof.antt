@@ -24,7 +24,10 @@ same-length : tie.Need-same-length
 same-length c = search needs
 
 returns : tie.Need-returns
-returns c = came-back _ _ _ (c .before .before .before .before .before .before .pre .1) (c .before .before .put-hex .ensures)
+returns c =
+    let at-put-hex = c .before .before in
+    let at-pre = at-put-hex .before .before .before .before in
+    came-back _ _ _ (at-pre .pre .1) (at-put-hex .put-hex .ensures)
 
 pub then-hex-spec : {M : Type 1} → statement M
 then-hex-spec =

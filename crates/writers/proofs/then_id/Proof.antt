@@ -24,7 +24,10 @@ same-length : tie.Need-same-length
 same-length c = search needs
 
 returns : tie.Need-returns
-returns c = came-back _ _ _ (c .before .before .before .before .before .pre .1) (c .before .before .put-id .ensures)
+returns c =
+    let at-put-id = c .before .before in
+    let at-pre = at-put-id .before .before .before in
+    came-back _ _ _ (at-pre .pre .1) (at-put-id .put-id .ensures)
 
 pub then-id-spec : {M : Type 1} → statement M
 then-id-spec =

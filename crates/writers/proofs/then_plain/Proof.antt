@@ -24,7 +24,10 @@ same-length : tie.Need-same-length
 same-length c = search needs
 
 returns : tie.Need-returns
-returns c = came-back _ _ _ (c .before .before .before .before .before .pre .2) (c .before .before .put-plain .ensures)
+returns c =
+    let at-put-plain = c .before .before in
+    let at-pre = at-put-plain .before .before .before in
+    came-back _ _ _ (at-pre .pre .2) (at-put-plain .put-plain .ensures)
 
 pub then-plain-spec : {M : Type 1} → statement M
 then-plain-spec =

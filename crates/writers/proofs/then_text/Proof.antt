@@ -24,7 +24,10 @@ same-length : tie.Need-same-length
 same-length c = search needs
 
 returns : tie.Need-returns
-returns c = came-back _ _ _ (c .before .before .before .before .before .before .pre) (c .before .before .put-text .ensures)
+returns c =
+    let at-put-text = c .before .before in
+    let at-pre = at-put-text .before .before .before .before in
+    came-back _ _ _ (at-pre .pre) (at-put-text .put-text .ensures)
 
 pub then-text-spec : {M : Type 1} → statement M
 then-text-spec =

@@ -40,8 +40,10 @@ loop-less c = search needs
 
 loop-again : tie.Need-loop-again Inv-loop μ-loop
 loop-again c =
-    let l = c .before .before .loop in
-    (search needs, copy-step _ _ _ _ _ (c .before .before .before .pre) (l .inv .1) (search needs))
+    let at-loop = c .before .before in
+    let at-pre = at-loop .before in
+    let l = at-loop .loop in
+    (search needs, copy-step _ _ _ _ _ (at-pre .pre) (l .inv .1) (search needs))
 
 same-length : tie.Need-same-length Inv-loop μ-loop
 same-length c = c .before .loop .inv .1 .len

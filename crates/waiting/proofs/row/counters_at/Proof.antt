@@ -45,8 +45,10 @@ loop-less c = search needs
 
 loop-again : tie.Need-loop-again Inv-loop μ-loop
 loop-again c =
-    let l = c .before .before .loop in
-    (search needs, l .inv .1, counters-step _ _ _ _ _ (c .before .before .before .pre) (l .inv .1) (l .inv .2) (search needs))
+    let at-loop = c .before .before in
+    let at-pre = at-loop .before in
+    let l = at-loop .loop in
+    (search needs, l .inv .1, counters-step _ _ _ _ _ (at-pre .pre) (l .inv .1) (l .inv .2) (search needs))
 
 returns : tie.Need-returns Inv-loop μ-loop
 returns c =

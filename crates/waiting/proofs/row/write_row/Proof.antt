@@ -20,16 +20,20 @@ words-long c = search needs
 
 -- the table keeps its length, part by part; `begin` is the entry, seen from the first
 abbrev begin : tie.After-lay-counters → tie.Start
-begin c = c .before .before .before .before .before .before .before .before
+begin c =
+    c .before .before .before .before .before .before .before .before
 
 first-long : (c : tie.After-lay-counters) → length (c .lay-counters .last .0) ≡ length (begin c .args .t .now)
 first-long c = simp length-set at (c .lay-counters .kept .0)
 
 second-long : (c : tie.After-lay) → length (c .lay .last .0) ≡ length (begin (c .before .before .before .before .before) .args .t .now)
-second-long c = c .lay .kept .0 ∙ first-long (c .before .before .before .before .before)
+second-long c =
+    c .lay .kept .0 ∙ first-long (c .before .before .before .before .before)
 
-third-long : (c : tie.After-write3) → length (c .write3 .last .0) ≡ length (begin (c .before .before .before .before .before .before .before .before .before .before .before) .args .t .now)
-third-long c = c .write3 .kept .0 ∙ second-long (c .before .before .before .before .before .before)
+third-long : (c : tie.After-write3) → length (c .write3 .last .0) ≡ length
+    (begin (c .before .before .before .before .before .before .before .before .before .before .before) .args .t .now)
+third-long c =
+    c .write3 .kept .0 ∙ second-long (c .before .before .before .before .before .before)
 
 mul-t : tie.Need-mul-t
 mul-t c = search needs
@@ -41,7 +45,9 @@ add-lay-counters : tie.Need-add-lay-counters
 add-lay-counters c = search needs
 
 lay-counters-requires : tie.Need-lay-counters-requires
-lay-counters-requires c κs = simp length-set (omega (arith, c .before .before .before .before .before .before .before .pre))
+lay-counters-requires c κs =
+    let at-pre = c .before .before .before .before .before .before .before in
+    simp length-set (omega (arith, at-pre .pre))
 
 add-lay : tie.Need-add-lay
 add-lay c = search needs
@@ -81,17 +87,20 @@ lay-requires-2 c κs =
     omega (arith, s .pre, words-long s, third-long w)
 
 same-length : tie.Need-same-length
-same-length c = c .before .before .lay2 .kept .0 ∙ third-long (c .before .before .before .before .before .before .before)
+same-length c =
+    let at-lay2 = c .before .before in
+    at-lay2 .lay2 .kept .0 ∙ third-long (at-lay2 .before .before .before .before .before)
 
 returns : tie.Need-returns
 returns c =
-    let w = c .before .before .before .before .before .before .before in
+    let at-lay2 = c .before .before in
+    let w = at-lay2 .before .before .before .before .before in
     let k = w .before .before .before .before .before .before in
     let d = k .before .before .before .before .before in
     let s = begin d in
     let n = rw (w .before .before .deed-code .ensures, w .before .deed-number .ensures) at (w .write3 .ensures) in
     written _ _ _ _ _ _ _ _ _ _ _ _ _ (eight s) (keys-long s) (s .pre) (d .lay-counters .ensures) (k .lay .ensures) n
-    (c .before .before .lay2 .ensures)
+    (at-lay2 .lay2 .ensures)
 
 pub write-row-spec : {M : Type 1} → statement M
 write-row-spec =
