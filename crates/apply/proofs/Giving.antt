@@ -30,7 +30,7 @@ use Rattle.tables.specs.Holding.{Holds, four, flagRow}
 use Rattle.tables.specs.Parts.{at-behind}
 use Rattle.tables.specs.declared.Counts.{Counts}
 use Rattle.tables.specs.declared.Stop.{Stop}
-use Rattle.steps.specs.Steps.{Flags, Marks, Drops, Adds}
+use Rattle.steps.specs.Steps.{Flags, Marks, Sets}
 use Rattle.clear.specs.Clear.{Clears}
 use Rattle.apply.specs.Reach.{blockAt}
 use Rattle.apply.specs.Doing.{isDelete, givenIn, branchOf, stringKind, kindOf, partsOf, Spare, Does, Gives, Finishes}
@@ -71,33 +71,31 @@ held-plain (string b) h = rw (le-ltb 32 (length b) (h .short))
 
 module _ (i : ℕ) (d : List ℕ) (g : Given) (ws : List ℕ) (n : ℕ) (s : Stop) (c : Counts) (h m v : List ℕ) where
   -- a plain value
-  pub give-plain : (a b e : Counts) (p′ : ℕ) (h₁ h₂ h′ m′ v₁ v′ : List ℕ) (kind : ℕ) (parts : List ℕ) → branchOf g ≡ 0 → kind ≡ kindOf g
-      → parts ≡ partsOf g ws → Marks s i c (c .marks) n h m a p′ h₁ m′ → Drops s d a h₁ v b h₂ v₁ → Adds s i (kind ∷ parts) b h₂ v₁ e h′ v′
+  pub give-plain : (a e : Counts) (p′ : ℕ) (h₁ h′ m′ v′ : List ℕ) (kind : ℕ) (parts : List ℕ) → branchOf g ≡ 0 → kind ≡ kindOf g
+      → parts ≡ partsOf g ws → Marks s i c (c .marks) n h m a p′ h₁ m′ → Sets s d i (kind ∷ parts) a h₁ v e h′ v′
       → Gives i d g ws n s c h m v e p′ h′ m′ v′
-  unfolding Marks Drops Adds giveBlock
-  give-plain a b e p′ h₁ h₂ h′ m′ v₁ v′ kind parts q ek ep M D X k A R r emptyMap H t va eg ew f some p =
+  unfolding Marks Sets giveBlock
+  give-plain a e p′ h₁ h′ m′ v′ kind parts q ek ep M X k A R r emptyMap H t va eg ew f some p =
       absurd (omega (arith, q, ap branchOf eg, branch-map))
-  give-plain a b e p′ h₁ h₂ h′ m′ v₁ v′ kind parts q ek ep M D X k A R r emptyList H t va eg ew f some p =
+  give-plain a e p′ h₁ h′ m′ v′ kind parts q ek ep M X k A R r emptyList H t va eg ew f some p =
       absurd (omega (arith, q, ap branchOf eg, branch-list))
-  give-plain a b e p′ h₁ h₂ h′ m′ v₁ v′ kind parts q ek ep M D X k A R r (plain x) H t va eg ew f some p =
+  give-plain a e p′ h₁ h′ m′ v′ kind parts q ek ep M X k A R r (plain x) H t va eg ew f some p =
       let r₁ = markRow i r in
-      let r₂ = dropRow d r₁ in
-      let r₃ = addRow i x r₂ in
+      let r₂ = addRow i x (dropRow d r₁) in
       let L = M k m v A R r (holds-gap n _ c _ H (p .marks-spare)) H t (f .0) (omega (arith, some, p .marks-spare)) some
       (placed _ c s A R r H t .marks-low) in
       let m₁ = L .table in
-      let N₂ = D k m₁ A R r₁ (L .is) t in
-      let L₂ = row-does _ _ c b A R r r₂ 1 0 H N₂ (marked-more i r) (omega (arith, clear-values-length d r)) in
+      let L₁ = row-does _ _ c a A R r r₁ 1 0 H (L .is) (marked-more i r) (omega arith) in
       let w : plainWords x ≡ kind ∷ parts = held-plain x va ∙ rw (ek, ep, eg, ew) in
-      let N₃ = X k m₁ A R r₂ x N₂ t (fresh-clear-values d r i (f .1)) (omega (arith, L₂ .values-more, p .values-spare)) w in
-      let l : length (r₃ .values) ≤ length (r .values) + 1 =
-      omega (arith, put-length idOfValue (record { id = i; val = x }) (r₂ .values), clear-values-length d r) in
-      let J = row-does _ _ c e A R r r₃ 1 1 H N₃ (marked-more i r) l in
+      let N = X k m₁ A R r₁ x (L .is) t (fresh-clear-values d r i (f .1)) (omega (arith, L₁ .values-more, p .values-spare)) w in
+      let l : length (r₂ .values) ≤ length (r .values) + 1 =
+      omega (arith, put-length idOfValue (record { id = i; val = x }) (dropRow d r₁ .values), clear-values-length d r) in
+      let J = row-does _ _ c e A R r r₂ 1 1 H N (marked-more i r) l in
       record {
         table = m₁;
         gap = L .gap;
         before = L .before;
-        is = subst (λ R. Does (four h′ k m₁ v′) c e 0 1 1 (A ++ r₃ ∷ R)) (sym (passed-rest (deeper (r .depth)) R)) J;
+        is = subst (λ R. Does (four h′ k m₁ v′) c e 0 1 1 (A ++ r₂ ∷ R)) (sym (passed-rest (deeper (r .depth)) R)) J;
       }
 
   -- an empty map or list

@@ -260,10 +260,9 @@ fn give(
     let branch = branch_of(g);
     if branch == 0 {
         let a = steps::mark_row(heads, marks, c, s, id, c.marks, n);
-        let b = steps::drop_values(heads, values, a.counts, s, deps);
         let kind = kind_of(g);
         let parts = parts_of(g, words);
-        let e = steps::add_value(heads, values, b, s, id, kind, parts);
+        let e = steps::set_value(heads, values, a.counts, s, deps, id, kind, parts);
         return Gapped {
             counts: e,
             gap: a.gap,

@@ -30,7 +30,7 @@ use Rattle.steps.proofs.Values.{among-is, rank-is, value-put}
 abbrev pub six : ℕ → ℕ → List ℕ → List ℕ
 six id kind w = id ∷ kind ∷ getD w 0 0 ∷ getD w 1 0 ∷ getD w 2 0 ∷ getD w 3 0 ∷ []
 
-six-is : (id kind : ℕ) (w : List ℕ) → length w ≡ 4 → six id kind w ≡ id ∷ kind ∷ w
+pub six-is : (id kind : ℕ) (w : List ℕ) → length w ≡ 4 → six id kind w ≡ id ∷ kind ∷ w
 six-is id kind [] h = absurd (omega arith)
 six-is id kind (a ∷ []) h = absurd (omega arith)
 six-is id kind (a ∷ b ∷ []) h = absurd (omega arith)

@@ -6,3 +6,4 @@ pub mod Marked
 pub mod Values
 pub mod Dropped
 pub mod Added
+pub mod Set

@@ -1,5 +1,6 @@
 // The single steps over the document's tables that change one row, or open one. Each is safe on any memory: a place, a
 // count or a table that doesn't fit is found before the first word is written. What they promise of tables that hold rows says specs/Steps.
+use counters::covered;
 use meaning::Counters;
 use tables::Counts;
 use tables::Stop;
@@ -14,7 +15,7 @@ ghost use Prim.Native.Nat.{_/_, _%_, _≤_, _<_};
 ghost use mathlib.Core.Path.{_≡_};
 ghost use mathlib.Core.List.{[], _∷_};
 ghost use Rattle.tables.specs.Words.{marksAt, valuesAt};
-ghost use Rattle.steps.specs.Steps.{FlagsHead, Flags, Opens, Marks, Drops, Adds};
+ghost use Rattle.steps.specs.Steps.{FlagsHead, Flags, Opens, Marks, Drops, Adds, HasOne, Sets};
 
 // A head's word with the flag of the list, or of the map.
 fn flagged(h: u64, list: bool) -> u64
@@ -167,7 +168,7 @@ pub fn mark_row(
 }
 
 // Drops a row's values that d covers.
-pub fn drop_values(heads: &mut [u64], values: &mut [u64], c: Counts, s: Stop, d: Counters) -> Counts
+fn drop_values(heads: &mut [u64], values: &mut [u64], c: Counts, s: Stop, d: Counters) -> Counts
     ensures { λ r. ⌜ Drops s (d .at) c (now (heads .entry)) (now (values .entry)) r (now (heads .exit)) (now (values .exit)) ⌝ }
 {
     let row = s.row;
@@ -203,7 +204,7 @@ pub fn drop_values(heads: &mut [u64], values: &mut [u64], c: Counts, s: Stop, d:
 }
 
 // Puts a value among a row's values, which have none of its id: its kind, and four words.
-pub fn add_value(
+fn add_value(
     heads: &mut [u64],
     values: &mut [u64],
     c: Counts,
@@ -252,4 +253,54 @@ pub fn add_value(
         marks: c.marks,
         values: live + 1,
     }
+}
+
+// Whether a row has one value, and d covers it.
+fn has_one(heads: &[u64], values: &[u64], s: Stop, d: Counters) -> bool
+    ensures { λ r. ⌜ HasOne s (d .at) (now (heads .entry)) (now (values .entry)) r ⌝ }
+{
+    let row = s.row;
+    if row >= heads.len() {
+        return false;
+    }
+    if values_of(heads[row]) != 1 {
+        return false;
+    }
+    let first = s.value;
+    if first > 256 {
+        return false;
+    }
+    let from = 6 * first;
+    if values.len() < from + 6 {
+        return false;
+    }
+    covered(d, values[from])
+}
+
+// A row's values that d covers go, and a value comes, of whose id none is left. If it comes for the only one, it is written over it, and no
+// other word moves.
+pub fn set_value(
+    heads: &mut [u64],
+    values: &mut [u64],
+    c: Counts,
+    s: Stop,
+    d: Counters,
+    id: u64,
+    kind: u64,
+    words: [u64; 4],
+) -> Counts
+    ensures { λ r. ⌜ Sets s (d .at) id (kind ∷ words) c (now (heads .entry)) (now (values .entry)) r (now (heads .exit))
+        (now (values .exit)) ⌝ }
+{
+    if has_one(heads, values, s, d) {
+        let at = 6 * s.value;
+        write_words(
+            values,
+            at,
+            [id, kind, words[0], words[1], words[2], words[3]],
+        );
+        return c;
+    }
+    let left = drop_values(heads, values, c, s, d);
+    add_value(heads, values, left, s, id, kind, words)
 }

@@ -13,17 +13,14 @@ branch-of-requires c κs = search needs
 mark-row-requires : tie.Need-mark-row-requires
 mark-row-requires c κs = search needs
 
-drop-values-requires : tie.Need-drop-values-requires
-drop-values-requires c κs = search needs
-
 kind-of-requires : tie.Need-kind-of-requires
 kind-of-requires c κs = search needs
 
 parts-of-requires : tie.Need-parts-of-requires
 parts-of-requires c κs = search needs
 
-add-value-requires : tie.Need-add-value-requires
-add-value-requires c κs = search needs
+set-value-requires : tie.Need-set-value-requires
+set-value-requires c κs = search needs
 
 same-length : tie.Need-same-length
 same-length c = search needs
@@ -36,16 +33,14 @@ same-length-3 c = search needs
 
 returns : tie.Need-returns
 returns c =
-    let at-add-value = c .before .before .before .before in
-    let at-parts-of = at-add-value .before .before .before in
+    let at-set-value = c .before .before .before .before in
+    let at-parts-of = at-set-value .before .before .before in
     let at-kind-of = at-parts-of .before in
-    let at-drop-values = at-kind-of .before .before .before .before .before in
-    let at-mark-row = at-drop-values .before .before .before .before .before .before .before in
+    let at-mark-row = at-kind-of .before .before .before .before .before in
     let at-if1 = at-mark-row .before .before .before in
     let at-branch-of = at-if1 .before in
-    give-plain _ _ _ _ _ _ _ _ _ _ _ _ _ _ _ _ _ _ _ _ _ _ (omega (arith, at-branch-of .branch-of .ensures, at-if1 .if1 .taken))
-    (at-kind-of .kind-of .ensures) (at-parts-of .parts-of .ensures) (at-mark-row .mark-row .ensures)
-    (at-drop-values .drop-values .ensures) (at-add-value .add-value .ensures)
+    give-plain _ _ _ _ _ _ _ _ _ _ _ _ _ _ _ _ _ _ _ (omega (arith, at-branch-of .branch-of .ensures, at-if1 .if1 .taken))
+    (at-kind-of .kind-of .ensures) (at-parts-of .parts-of .ensures) (at-mark-row .mark-row .ensures) (at-set-value .set-value .ensures)
 
 clear-block-requires : tie.Need-clear-block-requires
 clear-block-requires c κs = search needs
@@ -82,10 +77,9 @@ give-spec =
     (tie.spec
     branch-of-requires
     mark-row-requires
-    drop-values-requires
     kind-of-requires
     parts-of-requires
-    add-value-requires
+    set-value-requires
     same-length
     same-length-2
     same-length-3

@@ -37,15 +37,11 @@ slice-aggregate-then-text : tie.Need-slice-aggregate-then-text Inv-loop μ-loop
 slice-aggregate-then-text c = search needs
 
 then-text-requires : tie.Need-then-text-requires Inv-loop μ-loop
-then-text-requires c κs =
-    let at-loop-test = c .before .before in
-    let at-loop = at-loop-test .before in
-    let at-put-decimal = at-loop .before .before .before in
-    let at-wide = at-put-decimal .before in
-    let at-start = at-wide .before .before .before .before in
-    room (ascii ",") _ (comes (at-loop .loop .inv) (search needs) (at-loop-test .loop-test .taken) refl
-    (first (at-put-decimal .put-decimal .ensures)
-    (counters-text (at-start .args .counters .at) (search needs) (at-wide .wide .ensures)) (at-start .pre .1)))
+then-text-requires c κs = room (ascii ",") _ (comes (c .before .before .before .loop .inv) (search needs)
+    (c .before .before .loop-test .taken) refl (first (c .before .before .before .before .before .before .put-decimal .ensures)
+    (counters-text (c .before .before .before .before .before .before .before .before .before .before .before .args .counters .at)
+    (search needs) (c .before .before .before .before .before .before .before .wide .ensures))
+    (c .before .before .before .before .before .before .before .before .before .before .before .pre .1)))
 
 mul-wide : tie.Need-mul-wide Inv-loop μ-loop
 mul-wide c = search needs
@@ -57,19 +53,20 @@ wide-requires-2 : tie.Need-wide-requires-2 Inv-loop μ-loop
 wide-requires-2 c κs = search needs
 
 then-decimal-requires : tie.Need-then-decimal-requires Inv-loop μ-loop
-then-decimal-requires c κs =
-    let at-then-text = c .before .before .before .before in
-    let at-loop-test = at-then-text .before .before .before in
-    let at-loop = at-loop-test .before in
-    let at-put-decimal = at-loop .before .before .before in
-    let at-wide = at-put-decimal .before in
-    let at-pre = at-wide .before .before .before .before in (
-      at-pre .pre .0,
-      room (decimal _) _ (next (at-then-text .then-text .ensures) _
-          (comes (at-loop .loop .inv) (search needs) (at-loop-test .loop-test .taken) (c .wide2 .ensures)
-          (first (at-put-decimal .put-decimal .ensures)
-          (counters-text (at-pre .args .counters .at) (search needs) (at-wide .wide .ensures)) (at-pre .pre .1)))),
-    )
+then-decimal-requires c κs = (
+  c .before .before .before .before .before .before .before .before .before .before .before .before
+      .before .before .before .before .pre .0,
+  room (decimal _) _
+      (next (c .before .before .before .before .then-text .ensures) _
+      (comes (c .before .before .before .before .before .before .before .before .loop .inv) (search needs)
+      (c .before .before .before .before .before .before .before .loop-test .taken) (c .wide2 .ensures)
+      (first (c .before .before .before .before .before .before .before .before .before .before .before .put-decimal .ensures)
+      (counters-text (c .before .before .before .before .before .before .before .before .before .before .before .before .before .before
+      .before .before .args .counters .at) (search needs)
+      (c .before .before .before .before .before .before .before .before .before .before .before .before .wide .ensures))
+      (c .before .before .before .before .before .before .before .before .before .before .before .before .before .before .before .before
+      .pre .1)))),
+)
 
 add-i : tie.Need-add-i Inv-loop μ-loop
 add-i c = search needs
@@ -78,14 +75,10 @@ loop-less : tie.Need-loop-less Inv-loop μ-loop
 loop-less c = search needs
 
 loop-again : tie.Need-loop-again Inv-loop μ-loop
-loop-again c =
-    let at-then-decimal = c .before .before in
-    let at-wide2 = at-then-decimal .before in
-    let at-then-text = at-wide2 .before .before .before .before in
-    let at-loop-test = at-then-text .before .before .before in
-    let at-loop = at-loop-test .before in
-    counting-more (at-loop .loop .inv) (search needs) (at-loop-test .loop-test .taken) (at-wide2 .wide2 .ensures)
-    (at-then-text .then-text .ensures) (at-then-decimal .then-decimal .ensures)
+loop-again c = counting-more (c .before .before .before .before .before .before .before .before .before .before .before .loop .inv)
+    (search needs) (c .before .before .before .before .before .before .before .before .before .before .loop-test .taken)
+    (c .before .before .before .wide2 .ensures) (c .before .before .before .before .before .before .before .then-text .ensures)
+    (c .before .before .then-decimal .ensures)
 
 same-length : tie.Need-same-length Inv-loop μ-loop
 same-length c =
