@@ -1,0 +1,4 @@
+pub mod Filled
+pub mod Once
+pub mod Messages
+pub mod Rows
