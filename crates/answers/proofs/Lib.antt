@@ -2,3 +2,4 @@ pub mod Filled
 pub mod Once
 pub mod Messages
 pub mod Rows
+pub mod Trees
