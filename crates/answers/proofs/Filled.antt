@@ -2,14 +2,13 @@
 -- Assumes nothing.
 use Prim.Native.Nat.{ℕ, _+_, _≤_, _<_}
 use native.Mathlib.Omega.{arith}
-use mathlib.Core.Path.{_≡_, refl, ap, _∙_}
+use mathlib.Core.Path.{_≡_, refl, ap}
 use mathlib.Core.List.{List, [], _++_}
 use lib.ListN.{length, length-append}
-use Rattle.meaning.specs.Text.{over}
 use Rattle.meaning.specs.declared.Saved.the-variants.{Written, ShortBuffer}
 use Rattle.decimal.specs.Take.{Wrote}
 use Rattle.writers.specs.Wrote.{WroteAt}
-use Rattle.writers.proofs.Over.{wrote-none, Writing, first, last-room, last, same-long}
+use Rattle.writers.proofs.Over.{wrote-none, first, last-room, last}
 use Rattle.answers.specs.Fills.{needed, Fills}
 
 module _ (text before : List ℕ) where

@@ -3,3 +3,4 @@ pub mod Once
 pub mod Messages
 pub mod Rows
 pub mod Trees
+pub mod Readings

@@ -8,7 +8,6 @@ use lib.ListN.{length}
 use Rattle.meaning.specs.Ways.{Operation}
 use Rattle.meaning.specs.Valid.{ValidOperation}
 use Rattle.meaning.specs.Message.{message, editText}
-use Rattle.meaning.specs.Promises.{Lines, linesOf}
 use Rattle.meaning.specs.Text.{over}
 use Rattle.meaning.specs.declared.Saved.{Saved}
 use Rattle.meaning.specs.declared.Saved.the-variants.{Written, ShortBuffer}

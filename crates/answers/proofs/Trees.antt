@@ -1,6 +1,6 @@
 -- Of tables that hold a document, the text that `keys` gives is what document 01 reads: `keys-of-place`, `keys-of-root`.
 -- Assumes nothing.
-use Prim.Native.Nat.{ℕ, zero, suc, _+_, _-_, _%_, _≤_, _<_}
+use Prim.Native.Nat.{ℕ, zero, suc, _+_, _-_, _%_, _≤_}
 use native.Mathlib.Omega.{arith}
 use mathlib.Core.Path.{_≡_, refl, sym, ap, ap₂, _∙_, subst}
 use mathlib.Core.Bool.{Bool, true, false, cond, _&&_}
@@ -9,18 +9,17 @@ use borrow.Author.Tests.{lt-ltb, le-ltb, eq-eqb, ne-eqb}
 use lib.Dec.{ltb, eqb}
 use lib.ListN.{length, getD, length-append}
 use Rattle.meaning.specs.Places.{Place, place, Children, childless, child, Elements, empty, element, childrenOf, Document}
-use Rattle.meaning.specs.Read.{isMarked, keysText}
+use Rattle.meaning.specs.Read.{keysText}
 use Rattle.meaning.specs.Sheet.{Spot, inMap, inList, Row, rowOf, rows, rowsChildren, rowsElements, rowsOf}
 use Rattle.theorems.specs.Fit.{Deep, deep-rows, deep-children}
 use Rattle.rows.specs.Blocks.{passed, rest, deeper}
 use Rattle.rows.specs.Balanced.{passed-rest}
-use Rattle.rows.specs.Spans.{Splits, Shallow, split-none, split-all, deep-deeper, under-split}
-use Rattle.writers.specs.Words.{bytesOf}
+use Rattle.rows.specs.Spans.{Shallow, split-none, split-all, deep-deeper, under-split}
 use Rattle.lines.specs.Rows.{keyRow}
 use Rattle.lines.proofs.Words.{key-back}
 use Rattle.lines.proofs.Texts.{keys-more}
 use Rattle.tables.specs.Words.{side, headWord, spotWords}
-use Rattle.tables.specs.Seek.{Three, three, threeAt}
+use Rattle.tables.specs.Seek.{three}
 use Rattle.tables.specs.Finds.{GoodSpot, Narrow, AllNarrow, depth-in, side-in, marks-in}
 use Rattle.tables.specs.Holding.{Holds, four}
 use Rattle.tables.specs.Parts.{holds-narrow, all-narrow-right}
@@ -180,6 +179,17 @@ pub keys-of-place : (h k m v : List ℕ) (c : Counts) (A R : List Row) (depth : 
     → passed (deeper depth) R ≡ rows (suc depth) p
     → keysUnder h k (length A) (c .rows) depth ≡ keysText (childrenOf p)
 keys-of-place h k m v c A R depth p H e = under-tells h k m v c depth A R H ∙ (ap (rowsTell depth) e ∙ place-tells depth p)
+
+-- The place's own row stands behind the rows A, and behind what hangs under it comes a row that isn't deeper, or none.
+pub keys-at-row : (h k m v : List ℕ) (c : Counts) (A B : List Row) (s : Spot) (depth : ℕ) (p : Place)
+    → Holds (four h k m v) c (A ++ rowOf depth s p ∷ (rows (suc depth) p ++ B)) → Shallow depth B
+    → keysUnder h k (length A + 1) (c .rows) depth ≡ keysText (childrenOf p)
+keys-at-row h k m v c A B s depth p H b =
+    let r : Row = rowOf depth s p in
+    let R : List Row = rows (suc depth) p ++ B in
+    ap (λ i. keysUnder h k i (c .rows) depth) (sym (behind-one A r))
+    ∙ keys-of-place h k m v c (A ++ (r ∷ [])) R depth p (one-on h k m v c A r R H)
+    (under-split depth p B b .front ∙ append-nil (rows (suc depth) p))
 
 -- The root: what hangs under it is all the rows.
 pub keys-of-root : (h k m v : List ℕ) (c : Counts) (D : Document) → Holds (four h k m v) c (rowsOf D)

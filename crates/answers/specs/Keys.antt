@@ -2,7 +2,7 @@
 -- those under a place of depth d are the rows behind it up to the first whose depth is not above d. Behind a table's end its words count as
 -- 0, and a key that is too long as the empty one, as in the sheet (crate `sheet`, specs/Texts).
 -- Assumes nothing: these are definitions.
-use Prim.Native.Nat.{ℕ, zero, suc, _+_, _*_, _-_}
+use Prim.Native.Nat.{ℕ, zero, suc, _+_, _-_}
 use mathlib.Core.Bool.{Bool, cond, _&&_}
 use mathlib.Core.List.{List, [], _∷_}
 use lib.Dec.{ltb, eqb}
