@@ -114,7 +114,11 @@ pub element-short : (i : ℕ) → i ≤ 18446744073709551615 → length (idRow i
 unfolding idText
 element-short i h =
     rw (row-text i)
-    (simp length-append (omega (arith, decimal-short 20 (i / 8) (omega arith) (omega arith), decimal-short 20 (suc (i % 8)) (omega arith) (omega arith))))
+    (simp length-append (omega (
+      arith,
+      decimal-short 20 (i / 8) (omega arith) (omega arith),
+      decimal-short 20 (suc (i % 8)) (omega arith) (omega arith),
+    )))
 
 -- The keys of a place, and of the root.
 module _ (h k m v : List ℕ) (c : Counts) (before after : List ℕ) (r : Saved) where

@@ -103,7 +103,8 @@ module _ (h k m v : List ℕ) (c : Counts) where
     under-is A [] H = refl
     under-is A (r ∷ R) H =
         let i = ap (λ i. under h depth i (length R)) (sym (behind-one A r)) ∙ under-is (A ++ (r ∷ [])) R (one-on A r R H) in
-        ap (λ b. cond b (suc (under h depth (length A + 1) (length R))) zero) (deep-here A r R H) ∙ go (deeper depth r) (passed (deeper depth) R) i
+        ap (λ b. cond b (suc (under h depth (length A + 1) (length R))) zero) (deep-here A r R H)
+        ∙ go (deeper depth r) (passed (deeper depth) R) i
       where
         go : (b : Bool) {x : ℕ} (l : List Row) → x ≡ length l → cond b (suc x) zero ≡ length (cond b (r ∷ l) [])
         go true l e = ap suc e

@@ -1,7 +1,7 @@
 -- Document 01, "What is answered", 0 and 13: what it is to give a text into the caller's buffer. If the buffer is too short, it stays as
 -- it was and the bytes needed are told; otherwise the text stands at its start, the rest is untouched, and the bytes written are told.
--- Stricter than document 01 in one thing: a usize counts to 18446744073709551615, so a text that is longer than every slice is told as
--- that many bytes. Only a caller's own lines can be so long (specs: message), and those of an edit are not: a message has at most 463.
+-- Document 01 is silent on a text whose size no usize can tell: it is told as 18446744073709551615, the greatest. No slice is longer than
+-- that, so such a text never fits; and only lines that are no edit's can make one, since a message has at most 463 bytes.
 -- Assumes nothing: these are definitions.
 use Prim.Native.Nat.{ℕ, _≤_, _<_, min}
 use mathlib.Core.Path.{_≡_}

@@ -20,7 +20,8 @@ ghost use Rattle.lines.specs.Rows.{idRow, messageHead};
 ghost use Rattle.answers.specs.Fills.{Fills};
 ghost use Rattle.answers.specs.Keys.{shortOf, isTold, keyText, keysFrom, under, keysUnder};
 
-// An edit's message: its head, and the edit's lines from `at=` on, which are the caller's own bytes.
+// An edit's message: its head, and the edit's lines from `at=` on, which are the caller's own bytes. Lent lines may be as long as memory:
+// if no usize can tell the size (no edit's lines come near it), no buffer takes it, and the greatest number is told.
 pub fn message(buf: &mut [u8], id: u64, deps: Counters, lines: &[u8]) -> Saved
     ensures { λ r. ⌜ Fills (messageHead id (deps .at) ++ now (lines .entry)) (now (buf .entry)) r (now (buf .exit)) ⌝ }
 {
@@ -38,7 +39,7 @@ pub fn message(buf: &mut [u8], id: u64, deps: Counters, lines: &[u8]) -> Saved
     Saved::Written { written }
 }
 
-// The id of an element, as it is read.
+// An element, as it is read: its id with an LF.
 pub fn element(buf: &mut [u8], id: u64) -> Saved
     ensures { λ r. ⌜ Fills (idRow id) (now (buf .entry)) r (now (buf .exit)) ⌝ }
 {
@@ -137,7 +138,7 @@ fn put_keys(buf: &mut [u8], heads: &[u64], keys: &[u64], from: usize, n: usize, 
     at
 }
 
-// How many rows hang under a place of this depth, whose first row is `from`: those up to the first that is not deeper.
+// How many rows hang under a place of this depth, the first of them at `from`: those up to the first that is not deeper.
 fn rows_under(heads: &[u64], from: usize, rows: usize, depth: u64) -> usize
     requires { ⌜ from ≤ rows ⌝ }
     ensures { λ r. ⌜ r ≡ under (now (heads .entry)) depth from (rows - from) ⌝ }
@@ -154,8 +155,9 @@ fn rows_under(heads: &[u64], from: usize, rows: usize, depth: u64) -> usize
     n
 }
 
-// The keys of a place of this depth, under which the rows from `from` on hang, as they are read: of those right under it by a key, that
-// have a mark. With more than 264 rows, or none from `from` on, there are none.
+// The keys of a place, as they are read. The place has this depth, and its own row stands right before `from`; of the root that is depth 0
+// from row 0 on. The rows are gone over up to the first that is not deeper; of those right under the place by a key, that have a mark, the
+// key is told. No tables hold more than 264 rows: then, as with none from `from` on, no key is told.
 pub fn keys(
     buf: &mut [u8],
     heads: &[u64],
