@@ -1,0 +1,6 @@
+pub mod Filled
+pub mod Once
+pub mod Messages
+pub mod Rows
+pub mod Trees
+pub mod Readings

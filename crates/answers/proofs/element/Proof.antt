@@ -1,0 +1,39 @@
+-- `answers::element` meets its contract.
+-- Assumes nothing.
+use native.Mathlib.Omega.{arith}
+use Rattle.answers.proofs.Filled.{too-short, written}
+use borrow.Author.Needs.{needs}
+use Rattle.answers.proofs.element.Statement.{statement}
+use Rattle.answers.proofs.element.Tie as tie
+use Rattle.decimal.proofs.powers.Reads as powers-reads
+use Rattle.lines.proofs.id_row_size.Reads as id-row-size-reads
+use Rattle.lines.proofs.put_id_row.Reads as put-id-row-reads
+
+powers-requires : tie.Need-powers-requires
+powers-requires c κs = search needs
+
+id-row-size-requires : tie.Need-id-row-size-requires
+id-row-size-requires c κs = search needs
+
+returns : tie.Need-returns
+returns c = too-short _ _ _ (c .before .id-row-size .ensures .size) (omega (arith, c .before .id-row-size .ensures .most)) (c .if1 .taken)
+
+put-id-row-requires : tie.Need-put-id-row-requires
+put-id-row-requires c κs = (c .before .before .before .before .before .powers .ensures, rw (c .before .before .before .id-row-size .ensures .size) at (c .before .before .if1 .left))
+
+same-length : tie.Need-same-length
+same-length c = search needs
+
+returns-2 : tie.Need-returns-2
+returns-2 c = written _ _ (omega (arith, c .before .before .before .before .before .if1 .left, c .before .before .before .before .before .before .id-row-size .ensures .size)) (c .before .before .put-id-row .ensures)
+
+pub element-spec : {M : Type 1} → statement M
+element-spec =
+    tie.close
+    (tie.spec
+    powers-requires
+    id-row-size-requires
+    returns
+    put-id-row-requires
+    same-length
+    returns-2)

@@ -1,0 +1,70 @@
+-- `answers::key_size` meets its contract.
+-- Assumes nothing.
+use native.Mathlib.Omega.{arith}
+use Rattle.sheet.proofs.Runs.{sized-as}
+use Rattle.answers.proofs.Rows.{key-here, untold-sized}
+use borrow.Author.Needs.{needs}
+use Rattle.answers.proofs.key_size.Statement.{statement}
+use Rattle.answers.proofs.key_size.Tie as tie
+use Rattle.lines.proofs.key_row_size.Reads as key-row-size-reads
+
+word-requires : tie.Need-word-requires
+word-requires c κs = search needs
+
+is-told-requires : tie.Need-is-told-requires
+is-told-requires c κs = search needs
+
+mul-word : tie.Need-mul-word
+mul-word c = omega (arith, c .before .before .before .before .before .pre)
+
+add-word : tie.Need-add-word
+add-word c = omega (arith, c .before .before .before .before .before .pre)
+
+word-requires-2 : tie.Need-word-requires-2
+word-requires-2 c κs = search needs
+
+short-of-requires : tie.Need-short-of-requires
+short-of-requires c κs = search needs
+
+mul-word-2 : tie.Need-mul-word-2
+mul-word-2 c = omega (arith, c .before .before .before .before .before .before .before .pre)
+
+word-requires-3 : tie.Need-word-requires-3
+word-requires-3 c κs = search needs
+
+mul-word-3 : tie.Need-mul-word-3
+mul-word-3 c = omega (arith, c .before .before .before .before .before .before .before .before .pre)
+
+add-word-2 : tie.Need-add-word-2
+add-word-2 c = omega (arith, c .before .before .before .before .before .before .before .before .pre)
+
+word-requires-4 : tie.Need-word-requires-4
+word-requires-4 c κs = search needs
+
+key-row-size-requires : tie.Need-key-row-size-requires
+key-row-size-requires c κs = c .before .before .short-of .ensures .1
+
+returns : tie.Need-returns
+returns c = sized-as (key-here (c .before .before .before .before .before .before .before .before .before .before .args .heads .now) (c .before .before .before .before .before .before .before .before .before .before .args .keys .now) (c .before .before .before .before .before .before .before .before .before .before .args .depth) (c .before .before .before .before .before .before .before .before .before .before .args .row) (c .before .before .before .before .before .before .before .word .ensures) (c .before .before .before .before .before .before .is-told .ensures) (c .before .before .before .before .before .if1 .taken) (c .before .before .word3 .ensures) (c .before .word4 .ensures) (c .before .before .before .before .word2 .ensures) (c .before .before .before .short-of .ensures .0)) (c .key-row-size .ensures)
+
+returns-2 : tie.Need-returns-2
+returns-2 c = untold-sized (c .before .before .before .before .before .args .heads .now) (c .before .before .before .before .before .args .keys .now) (c .before .before .before .before .before .args .depth) (c .before .before .before .before .before .args .row) (c .before .before .word .ensures) (c .before .is-told .ensures) (c .if1 .left)
+
+pub key-size-spec : {M : Type 1} → statement M
+key-size-spec =
+    tie.close
+    (tie.spec
+    word-requires
+    is-told-requires
+    mul-word
+    add-word
+    word-requires-2
+    short-of-requires
+    mul-word-2
+    word-requires-3
+    mul-word-3
+    add-word-2
+    word-requires-4
+    key-row-size-requires
+    returns
+    returns-2)

@@ -1,0 +1,54 @@
+-- `answers::keys_size` meets its contract. The loop's invariant: what is counted, and what is still to come.
+-- Assumes nothing.
+use Prim.Native.Nat.{_+_, _*_}
+use native.Mathlib.Omega.{arith}
+use mathlib.Core.Path.{_≡_, refl}
+use Rattle.sheet.proofs.Runs.{Summing, sum-begun, sum-more, sum-all}
+use Rattle.answers.specs.Keys.{keyText, keysFrom}
+use Rattle.answers.proofs.keys_size.Statement.{statement}
+use Rattle.answers.proofs.keys_size.Tie as tie
+
+abbrev Inv-loop : tie.InvT-loop
+Inv-loop heads keys from n depth sum₀ i₀ left₀ sum i left = Summing (keysFrom heads keys depth from n) (keysFrom heads keys depth i left) 33 left (33 * n) sum × (i + left ≡ from + n)
+
+abbrev μ-loop : tie.MeasureT-loop
+μ-loop heads keys from n depth sum₀ i₀ left₀ sum i left = left
+
+loop-holds : tie.Need-loop-holds Inv-loop μ-loop
+loop-holds c = (sum-begun (keyText (c .before .before .args .heads .now) (c .before .before .args .keys .now) (c .before .before .args .depth)) (λ i. i + 1) (c .before .before .args .from) (c .before .before .args .n) 33, refl)
+
+key-size-requires : tie.Need-key-size-requires Inv-loop μ-loop
+key-size-requires c κs = omega (arith, c .before .loop .inv .1, c .before .before .before .before .pre, c .loop-test .taken)
+
+add-sum : tie.Need-add-sum Inv-loop μ-loop
+add-sum c = omega (arith, c .key-size .ensures .most, c .before .before .loop .inv .0 .most, c .before .before .before .before .before .pre, c .before .loop-test .taken)
+
+add-i : tie.Need-add-i Inv-loop μ-loop
+add-i c = omega (arith, c .before .before .loop .inv .1, c .before .before .before .before .before .pre, c .before .loop-test .taken)
+
+sub-left : tie.Need-sub-left Inv-loop μ-loop
+sub-left c = omega (arith, c .before .loop-test .taken)
+
+loop-less : tie.Need-loop-less Inv-loop μ-loop
+loop-less c = omega (arith, c .before .loop-test .taken)
+
+loop-again : tie.Need-loop-again Inv-loop μ-loop
+loop-again c = (sum-more (keyText (c .before .before .before .before .before .args .heads .now) (c .before .before .before .before .before .args .keys .now) (c .before .before .before .before .before .args .depth)) (λ i. i + 1) (c .before .before .loop .i) (c .before .before .loop .left) (c .before .loop-test .taken) (c .before .before .loop .inv .0) (c .key-size .ensures), omega (arith, c .before .before .loop .inv .1, c .before .loop-test .taken))
+
+returns : tie.Need-returns Inv-loop μ-loop
+returns c = sum-all (keyText (c .before .before .before .before .args .heads .now) (c .before .before .before .before .args .keys .now) (c .before .before .before .before .args .depth)) (λ i. i + 1) (c .before .loop .i) (c .before .loop .left) (c .loop-test .left) (c .before .loop .inv .0)
+
+pub keys-size-spec : {M : Type 1} → statement M
+keys-size-spec =
+    tie.close
+    (tie.spec
+    Inv-loop
+    μ-loop
+    loop-holds
+    key-size-requires
+    add-sum
+    add-i
+    sub-left
+    loop-less
+    loop-again
+    returns)

@@ -1,0 +1,60 @@
+-- `answers::rows_under` meets its contract. The loop's invariant: what is counted, and what is still to come.
+-- Assumes nothing.
+use native.Mathlib.Omega.{arith}
+use Rattle.answers.proofs.Rows.{Counting, count-none, count-more, count-stop, count-all}
+use borrow.Author.Needs.{needs}
+use Rattle.answers.proofs.rows_under.Statement.{statement}
+use Rattle.answers.proofs.rows_under.Tie as tie
+
+abbrev Inv-loop : tie.InvT-loop
+Inv-loop heads from rows depth n₀ left₀ n left = Counting heads depth from rows n left
+
+abbrev μ-loop : tie.MeasureT-loop
+μ-loop heads from rows depth n₀ left₀ n left = left
+
+sub-left : tie.Need-sub-left Inv-loop μ-loop
+sub-left c = omega (arith, c .before .pre)
+
+loop-holds : tie.Need-loop-holds Inv-loop μ-loop
+loop-holds c = count-none (c .before .args .heads .now) (c .before .args .depth) (c .before .args .from) (c .before .args .rows)
+
+add-word : tie.Need-add-word Inv-loop μ-loop
+add-word c = omega (arith, c .before .loop .inv .few, c .before .before .before .pre, c .loop-test .taken)
+
+word-requires : tie.Need-word-requires Inv-loop μ-loop
+word-requires c κs = search needs
+
+returns : tie.Need-returns Inv-loop μ-loop
+returns c = count-stop (c .before .before .before .before .before .args .heads .now) (c .before .before .before .before .before .args .depth) (c .before .before .before .loop .inv) (c .before .word .ensures) (c .if1 .taken)
+
+add-n : tie.Need-add-n Inv-loop μ-loop
+add-n c = omega (arith, c .before .before .before .loop .inv .few, c .before .before .before .before .before .pre, c .before .before .loop-test .taken)
+
+sub-left-2 : tie.Need-sub-left-2 Inv-loop μ-loop
+sub-left-2 c = omega (arith, c .before .before .loop-test .taken)
+
+loop-less : tie.Need-loop-less Inv-loop μ-loop
+loop-less c = omega (arith, c .before .before .loop-test .taken)
+
+loop-again : tie.Need-loop-again Inv-loop μ-loop
+loop-again c = count-more (c .before .before .before .before .before .args .heads .now) (c .before .before .before .before .before .args .depth) (c .before .before .before .loop .inv) (c .before .word .ensures) (c .before .before .loop-test .taken) (c .if1 .left)
+
+returns-2 : tie.Need-returns-2 Inv-loop μ-loop
+returns-2 c = count-all (c .before .before .before .args .heads .now) (c .before .before .before .args .depth) (c .before .loop .inv) (c .loop-test .left)
+
+pub rows-under-spec : {M : Type 1} → statement M
+rows-under-spec =
+    tie.close
+    (tie.spec
+    Inv-loop
+    μ-loop
+    sub-left
+    loop-holds
+    add-word
+    word-requires
+    returns
+    add-n
+    sub-left-2
+    loop-less
+    loop-again
+    returns-2)
