@@ -19,13 +19,21 @@ returns : tie.Need-returns
 returns c = too-short _ _ _ (c .before .id-row-size .ensures .size) (omega (arith, c .before .id-row-size .ensures .most)) (c .if1 .taken)
 
 put-id-row-requires : tie.Need-put-id-row-requires
-put-id-row-requires c κs = (c .before .before .before .before .before .powers .ensures, rw (c .before .before .before .id-row-size .ensures .size) at (c .before .before .if1 .left))
+put-id-row-requires c κs =
+    let at-if1 = c .before .before in
+    let at-id-row-size = at-if1 .before in
+    let at-powers = at-id-row-size .before .before in
+    (at-powers .powers .ensures, rw (at-id-row-size .id-row-size .ensures .size) at (at-if1 .if1 .left))
 
 same-length : tie.Need-same-length
 same-length c = search needs
 
 returns-2 : tie.Need-returns-2
-returns-2 c = written _ _ (omega (arith, c .before .before .before .before .before .if1 .left, c .before .before .before .before .before .before .id-row-size .ensures .size)) (c .before .before .put-id-row .ensures)
+returns-2 c =
+    let at-put-id-row = c .before .before in
+    let at-if1 = at-put-id-row .before .before .before in
+    let at-id-row-size = at-if1 .before in
+    written _ _ (omega (arith, at-if1 .if1 .left, at-id-row-size .id-row-size .ensures .size)) (at-put-id-row .put-id-row .ensures)
 
 pub element-spec : {M : Type 1} → statement M
 element-spec =

@@ -15,10 +15,14 @@ is-told-requires : tie.Need-is-told-requires
 is-told-requires c κs = search needs
 
 mul-word : tie.Need-mul-word
-mul-word c = omega (arith, c .before .before .before .before .before .pre)
+mul-word c =
+    let at-pre = c .before .before .before .before .before in
+    omega (arith, at-pre .pre)
 
 add-word : tie.Need-add-word
-add-word c = omega (arith, c .before .before .before .before .before .pre)
+add-word c =
+    let at-pre = c .before .before .before .before .before in
+    omega (arith, at-pre .pre)
 
 word-requires-2 : tie.Need-word-requires-2
 word-requires-2 c κs = search needs
@@ -27,16 +31,22 @@ short-of-requires : tie.Need-short-of-requires
 short-of-requires c κs = search needs
 
 mul-word-2 : tie.Need-mul-word-2
-mul-word-2 c = omega (arith, c .before .before .before .before .before .before .before .pre)
+mul-word-2 c =
+    let at-pre = c .before .before .before .before .before .before .before in
+    omega (arith, at-pre .pre)
 
 word-requires-3 : tie.Need-word-requires-3
 word-requires-3 c κs = search needs
 
 mul-word-3 : tie.Need-mul-word-3
-mul-word-3 c = omega (arith, c .before .before .before .before .before .before .before .before .pre)
+mul-word-3 c =
+    let at-pre = c .before .before .before .before .before .before .before .before in
+    omega (arith, at-pre .pre)
 
 add-word-2 : tie.Need-add-word-2
-add-word-2 c = omega (arith, c .before .before .before .before .before .before .before .before .pre)
+add-word-2 c =
+    let at-pre = c .before .before .before .before .before .before .before .before in
+    omega (arith, at-pre .pre)
 
 word-requires-4 : tie.Need-word-requires-4
 word-requires-4 c κs = search needs
@@ -45,10 +55,24 @@ key-row-size-requires : tie.Need-key-row-size-requires
 key-row-size-requires c κs = c .before .before .short-of .ensures .1
 
 returns : tie.Need-returns
-returns c = sized-as (key-here (c .before .before .before .before .before .before .before .before .before .before .args .heads .now) (c .before .before .before .before .before .before .before .before .before .before .args .keys .now) (c .before .before .before .before .before .before .before .before .before .before .args .depth) (c .before .before .before .before .before .before .before .before .before .before .args .row) (c .before .before .before .before .before .before .before .word .ensures) (c .before .before .before .before .before .before .is-told .ensures) (c .before .before .before .before .before .if1 .taken) (c .before .before .word3 .ensures) (c .before .word4 .ensures) (c .before .before .before .before .word2 .ensures) (c .before .before .before .short-of .ensures .0)) (c .key-row-size .ensures)
+returns c =
+    let at-word3 = c .before .before in
+    let at-short-of = at-word3 .before in
+    let at-word2 = at-short-of .before in
+    let at-if1 = at-word2 .before in
+    let at-is-told = at-if1 .before in
+    let at-word = at-is-told .before in
+    let at-start = at-word .before .before .before in
+    sized-as (key-here (at-start .args .heads .now) (at-start .args .keys .now) (at-start .args .depth) (at-start .args .row)
+    (at-word .word .ensures) (at-is-told .is-told .ensures) (at-if1 .if1 .taken) (at-word3 .word3 .ensures)
+    (c .before .word4 .ensures) (at-word2 .word2 .ensures) (at-short-of .short-of .ensures .0)) (c .key-row-size .ensures)
 
 returns-2 : tie.Need-returns-2
-returns-2 c = untold-sized (c .before .before .before .before .before .args .heads .now) (c .before .before .before .before .before .args .keys .now) (c .before .before .before .before .before .args .depth) (c .before .before .before .before .before .args .row) (c .before .before .word .ensures) (c .before .is-told .ensures) (c .if1 .left)
+returns-2 c =
+    let at-word = c .before .before in
+    let at-start = at-word .before .before .before in
+    untold-sized (at-start .args .heads .now) (at-start .args .keys .now) (at-start .args .depth) (at-start .args .row)
+    (at-word .word .ensures) (c .before .is-told .ensures) (c .if1 .left)
 
 pub key-size-spec : {M : Type 1} → statement M
 key-size-spec =

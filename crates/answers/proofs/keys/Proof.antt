@@ -12,28 +12,91 @@ use Rattle.answers.proofs.keys.Statement.{statement}
 use Rattle.answers.proofs.keys.Tie as tie
 
 returns : tie.Need-returns
-returns c = nothing _ (too-many (c .before .before .before .before .args .heads .now) (c .before .before .before .before .args .keys .now) (c .before .before .before .before .args .from) (c .before .before .before .before .args .rows) (c .before .before .before .before .args .depth) (c .if1 .taken))
+returns c =
+    let at-start = c .before .before .before .before in
+    nothing _ (too-many (at-start .args .heads .now) (at-start .args .keys .now) (at-start .args .from) (at-start .args .rows)
+    (at-start .args .depth) (c .if1 .taken))
 
 returns-2 : tie.Need-returns-2
-returns-2 c = nothing _ (no-rows (c .before .before .before .before .before .args .heads .now) (c .before .before .before .before .before .args .keys .now) (c .before .before .before .before .before .args .from) (c .before .before .before .before .before .args .rows) (c .before .before .before .before .before .args .depth) (c .if2 .taken))
+returns-2 c =
+    let at-start = c .before .before .before .before .before in
+    nothing _ (no-rows (at-start .args .heads .now) (at-start .args .keys .now) (at-start .args .from) (at-start .args .rows)
+    (at-start .args .depth) (c .if2 .taken))
 
 rows-under-requires : tie.Need-rows-under-requires
 rows-under-requires c κs = c .if2 .left
 
 keys-size-requires : tie.Need-keys-size-requires
-keys-size-requires c κs = omega (arith, c .rows-under .ensures, under-most (c .before .before .before .before .before .before .args .heads .now) (c .before .before .before .before .before .before .args .depth) (c .before .before .before .before .before .before .args .from) (c .before .before .before .before .before .before .args .rows - c .before .before .before .before .before .before .args .from), c .before .before .if1 .left, c .before .if2 .left)
+keys-size-requires c κs =
+    let at-if1 = c .before .before in
+    let at-start = at-if1 .before .before .before .before in
+    omega (
+      arith,
+      c .rows-under .ensures,
+      under-most (at-start .args .heads .now) (at-start .args .depth) (at-start .args .from)
+          (at-start .args .rows - at-start .args .from),
+      at-if1 .if1 .left,
+      c .before .if2 .left,
+    )
 
 returns-3 : tie.Need-returns-3
-returns-3 c = too-short _ _ _ (c .before .keys-size .ensures .size ∙ ap length (rows-few (c .before .before .before .before .before .before .before .before .args .heads .now) (c .before .before .before .before .before .before .before .before .args .keys .now) (c .before .before .before .before .before .before .before .before .args .from) (c .before .before .before .before .before .before .before .before .args .rows) (c .before .before .before .before .before .before .before .before .args .depth) (c .before .before .before .before .if1 .left) (c .before .before .rows-under .ensures))) (omega (arith, c .before .keys-size .ensures .most, c .before .before .rows-under .ensures, under-most (c .before .before .before .before .before .before .before .before .args .heads .now) (c .before .before .before .before .before .before .before .before .args .depth) (c .before .before .before .before .before .before .before .before .args .from) (c .before .before .before .before .before .before .before .before .args .rows - c .before .before .before .before .before .before .before .before .args .from), c .before .before .before .before .if1 .left)) (c .if3 .taken)
+returns-3 c =
+    let at-rows-under = c .before .before in
+    let at-if1 = at-rows-under .before .before in
+    let at-start = at-if1 .before .before .before .before in
+    too-short _ _ _ (c .before .keys-size .ensures .size ∙ ap length
+    (rows-few (at-start .args .heads .now) (at-start .args .keys .now) (at-start .args .from) (at-start .args .rows)
+    (at-start .args .depth) (at-if1 .if1 .left) (at-rows-under .rows-under .ensures)))
+    (omega (
+      arith,
+      c .before .keys-size .ensures .most,
+      at-rows-under .rows-under .ensures,
+      under-most (at-start .args .heads .now)
+          (at-start .args .depth) (at-start .args .from) (at-start .args .rows - at-start .args .from),
+      at-if1 .if1 .left,
+    ))
+    (c .if3 .taken)
 
 put-keys-requires : tie.Need-put-keys-requires
-put-keys-requires c κs = (omega (arith, c .before .before .before .rows-under .ensures, under-most (c .before .before .before .before .before .before .before .before .before .args .heads .now) (c .before .before .before .before .before .before .before .before .before .args .depth) (c .before .before .before .before .before .before .before .before .before .args .from) (c .before .before .before .before .before .before .before .before .before .args .rows - c .before .before .before .before .before .before .before .before .before .args .from), c .before .before .before .before .before .if1 .left, c .before .before .before .before .if2 .left), rw (c .before .before .keys-size .ensures .size) at (c .before .if3 .left))
+put-keys-requires c κs =
+    let at-keys-size = c .before .before in
+    let at-rows-under = at-keys-size .before in
+    let at-if2 = at-rows-under .before in
+    let at-if1 = at-if2 .before in
+    let at-start = at-if1 .before .before .before .before in (
+      omega (
+        arith,
+        at-rows-under .rows-under .ensures,
+        under-most (at-start .args .heads .now) (at-start .args .depth)
+            (at-start .args .from) (at-start .args .rows - at-start .args .from),
+        at-if1 .if1 .left,
+        at-if2 .if2 .left,
+      ),
+      rw
+          (at-keys-size .keys-size .ensures .size) at (c .before .if3 .left),
+    )
 
 same-length : tie.Need-same-length
 same-length c = search needs
 
 returns-4 : tie.Need-returns-4
-returns-4 c = written _ _ (omega (arith, c .before .before .before .before .if3 .left, c .before .before .before .before .before .keys-size .ensures .size, ap length (rows-few (c .before .before .before .before .before .before .before .before .before .before .before .before .args .heads .now) (c .before .before .before .before .before .before .before .before .before .before .before .before .args .keys .now) (c .before .before .before .before .before .before .before .before .before .before .before .before .args .from) (c .before .before .before .before .before .before .before .before .before .before .before .before .args .rows) (c .before .before .before .before .before .before .before .before .before .before .before .before .args .depth) (c .before .before .before .before .before .before .before .before .if1 .left) (c .before .before .before .before .before .before .rows-under .ensures)))) (wrote-as (rows-few (c .before .before .before .before .before .before .before .before .before .before .before .before .args .heads .now) (c .before .before .before .before .before .before .before .before .before .before .before .before .args .keys .now) (c .before .before .before .before .before .before .before .before .before .before .before .before .args .from) (c .before .before .before .before .before .before .before .before .before .before .before .before .args .rows) (c .before .before .before .before .before .before .before .before .before .before .before .before .args .depth) (c .before .before .before .before .before .before .before .before .if1 .left) (c .before .before .before .before .before .before .rows-under .ensures)) (c .before .before .put-keys .ensures))
+returns-4 c =
+    let at-put-keys = c .before .before in
+    let at-if3 = at-put-keys .before .before in
+    let at-keys-size = at-if3 .before in
+    let at-rows-under = at-keys-size .before in
+    let at-if1 = at-rows-under .before .before in
+    let at-start = at-if1 .before .before .before .before in
+    written _ _ (omega (
+      arith,
+      at-if3 .if3 .left,
+      at-keys-size .keys-size .ensures .size,
+      ap length
+          (rows-few (at-start .args .heads .now) (at-start .args .keys .now) (at-start .args .from) (at-start .args .rows)
+          (at-start .args .depth) (at-if1 .if1 .left) (at-rows-under .rows-under .ensures)),
+    ))
+    (wrote-as (rows-few (at-start .args .heads .now) (at-start .args .keys .now) (at-start .args .from) (at-start .args .rows)
+    (at-start .args .depth) (at-if1 .if1 .left) (at-rows-under .rows-under .ensures)) (at-put-keys .put-keys .ensures))
 
 pub keys-spec : {M : Type 1} → statement M
 keys-spec =

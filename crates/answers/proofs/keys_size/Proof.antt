@@ -9,22 +9,36 @@ use Rattle.answers.proofs.keys_size.Statement.{statement}
 use Rattle.answers.proofs.keys_size.Tie as tie
 
 abbrev Inv-loop : tie.InvT-loop
-Inv-loop heads keys from n depth sum₀ i₀ left₀ sum i left = Summing (keysFrom heads keys depth from n) (keysFrom heads keys depth i left) 33 left (33 * n) sum × (i + left ≡ from + n)
+Inv-loop heads keys from n depth sum₀ i₀ left₀ sum i left = Summing (keysFrom heads keys depth from n)
+    (keysFrom heads keys depth i left) 33 left (33 * n) sum × (i + left ≡ from + n)
 
 abbrev μ-loop : tie.MeasureT-loop
 μ-loop heads keys from n depth sum₀ i₀ left₀ sum i left = left
 
 loop-holds : tie.Need-loop-holds Inv-loop μ-loop
-loop-holds c = (sum-begun (keyText (c .before .before .args .heads .now) (c .before .before .args .keys .now) (c .before .before .args .depth)) (λ i. i + 1) (c .before .before .args .from) (c .before .before .args .n) 33, refl)
+loop-holds c =
+    let at-start = c .before .before in (
+      sum-begun (keyText (at-start .args .heads .now) (at-start .args .keys .now) (at-start .args .depth)) (λ i. i + 1)
+          (at-start .args .from) (at-start .args .n) 33,
+      refl,
+    )
 
 key-size-requires : tie.Need-key-size-requires Inv-loop μ-loop
-key-size-requires c κs = omega (arith, c .before .loop .inv .1, c .before .before .before .before .pre, c .loop-test .taken)
+key-size-requires c κs =
+    let at-pre = c .before .before .before .before in
+    omega (arith, c .before .loop .inv .1, at-pre .pre, c .loop-test .taken)
 
 add-sum : tie.Need-add-sum Inv-loop μ-loop
-add-sum c = omega (arith, c .key-size .ensures .most, c .before .before .loop .inv .0 .most, c .before .before .before .before .before .pre, c .before .loop-test .taken)
+add-sum c =
+    let at-loop = c .before .before in
+    let at-pre = at-loop .before .before .before in
+    omega (arith, c .key-size .ensures .most, at-loop .loop .inv .0 .most, at-pre .pre, c .before .loop-test .taken)
 
 add-i : tie.Need-add-i Inv-loop μ-loop
-add-i c = omega (arith, c .before .before .loop .inv .1, c .before .before .before .before .before .pre, c .before .loop-test .taken)
+add-i c =
+    let at-loop = c .before .before in
+    let at-pre = at-loop .before .before .before in
+    omega (arith, at-loop .loop .inv .1, at-pre .pre, c .before .loop-test .taken)
 
 sub-left : tie.Need-sub-left Inv-loop μ-loop
 sub-left c = omega (arith, c .before .loop-test .taken)
@@ -33,10 +47,20 @@ loop-less : tie.Need-loop-less Inv-loop μ-loop
 loop-less c = omega (arith, c .before .loop-test .taken)
 
 loop-again : tie.Need-loop-again Inv-loop μ-loop
-loop-again c = (sum-more (keyText (c .before .before .before .before .before .args .heads .now) (c .before .before .before .before .before .args .keys .now) (c .before .before .before .before .before .args .depth)) (λ i. i + 1) (c .before .before .loop .i) (c .before .before .loop .left) (c .before .loop-test .taken) (c .before .before .loop .inv .0) (c .key-size .ensures), omega (arith, c .before .before .loop .inv .1, c .before .loop-test .taken))
+loop-again c =
+    let at-loop = c .before .before in
+    let at-start = at-loop .before .before .before in (
+      sum-more (keyText (at-start .args .heads .now) (at-start .args .keys .now) (at-start .args .depth)) (λ i. i + 1)
+          (at-loop .loop .i) (at-loop .loop .left) (c .before .loop-test .taken) (at-loop .loop .inv .0) (c .key-size .ensures),
+      omega
+          (arith, at-loop .loop .inv .1, c .before .loop-test .taken),
+    )
 
 returns : tie.Need-returns Inv-loop μ-loop
-returns c = sum-all (keyText (c .before .before .before .before .args .heads .now) (c .before .before .before .before .args .keys .now) (c .before .before .before .before .args .depth)) (λ i. i + 1) (c .before .loop .i) (c .before .loop .left) (c .loop-test .left) (c .before .loop .inv .0)
+returns c =
+    let at-start = c .before .before .before .before in
+    sum-all (keyText (at-start .args .heads .now) (at-start .args .keys .now) (at-start .args .depth)) (λ i. i + 1)
+    (c .before .loop .i) (c .before .loop .left) (c .loop-test .left) (c .before .loop .inv .0)
 
 pub keys-size-spec : {M : Type 1} → statement M
 keys-size-spec =

@@ -21,25 +21,84 @@ sub-if1 : tie.Need-sub-if1
 sub-if1 c = omega (arith, c .message-head-size .ensures .most)
 
 returns : tie.Need-returns
-returns c = too-long _ _ (omega (arith, c .before .message-head-size .ensures .most, c .if1 .taken, sizes (messageHead (c .before .before .before .before .before .before .args .id) (c .before .before .before .before .before .before .args .deps .at)) (c .before .before .before .before .before .before .args .lines .now) (c .before .before .before .before .before .before .args .buf .now) (c .before .message-head-size .ensures .size))) (omega arith)
+returns c =
+    let at-start = c .before .before .before .before .before .before in
+    too-long _ _ (omega (
+      arith,
+      c .before .message-head-size .ensures .most,
+      c .if1 .taken,
+      sizes
+          (messageHead (at-start .args .id) (at-start .args .deps .at)) (at-start .args .lines .now) (at-start .args .buf .now)
+          (c .before .message-head-size .ensures .size),
+    )) (omega arith)
 
 add-needed : tie.Need-add-needed
 add-needed c = omega (arith, c .before .message-head-size .ensures .most, c .if1 .left)
 
 returns-2 : tie.Need-returns-2
-returns-2 c = too-short _ _ _ (sizes (messageHead (c .before .before .before .before .before .before .before .args .id) (c .before .before .before .before .before .before .before .args .deps .at)) (c .before .before .before .before .before .before .before .args .lines .now) (c .before .before .before .before .before .before .before .args .buf .now) (c .before .before .message-head-size .ensures .size)) (omega (arith, c .before .before .message-head-size .ensures .most, c .before .if1 .left)) (c .if2 .taken)
+returns-2 c =
+    let at-message-head-size = c .before .before in
+    let at-start = at-message-head-size .before .before .before .before .before in
+    too-short _ _ _ (sizes (messageHead (at-start .args .id) (at-start .args .deps .at)) (at-start .args .lines .now)
+    (at-start .args .buf .now) (at-message-head-size .message-head-size .ensures .size))
+    (omega (arith, at-message-head-size .message-head-size .ensures .most, c .before .if1 .left)) (c .if2 .taken)
 
 put-message-head-requires : tie.Need-put-message-head-requires
-put-message-head-requires c κs = (c .before .before .before .before .before .before .powers .ensures, head-room (messageHead (c .before .before .before .before .before .before .before .before .before .args .id) (c .before .before .before .before .before .before .before .before .before .args .deps .at)) (c .before .before .before .before .before .before .before .before .before .args .lines .now) (c .before .before .before .before .before .before .before .before .before .args .buf .now) (omega (arith, c .before .before .if2 .left, sizes (messageHead (c .before .before .before .before .before .before .before .before .before .args .id) (c .before .before .before .before .before .before .before .before .before .args .deps .at)) (c .before .before .before .before .before .before .before .before .before .args .lines .now) (c .before .before .before .before .before .before .before .before .before .args .buf .now) (c .before .before .before .before .message-head-size .ensures .size))))
+put-message-head-requires c κs =
+    let at-if2 = c .before .before in
+    let at-message-head-size = at-if2 .before .before in
+    let at-powers = at-message-head-size .before .before in
+    let at-start = at-powers .before .before .before in (
+      at-powers .powers .ensures,
+      head-room (messageHead (at-start .args .id) (at-start .args .deps .at))
+          (at-start .args .lines .now) (at-start .args .buf .now)
+          (omega (
+            arith,
+            at-if2 .if2 .left,
+            sizes (messageHead (at-start .args .id) (at-start .args .deps .at))
+                (at-start .args .lines .now) (at-start .args .buf .now) (at-message-head-size .message-head-size .ensures .size),
+          )),
+    )
 
 then-text-requires : tie.Need-then-text-requires
-then-text-requires c κs = rest-room (messageHead (c .before .before .before .before .before .before .before .before .before .before .before .before .before .args .id) (c .before .before .before .before .before .before .before .before .before .before .before .before .before .args .deps .at)) (c .before .before .before .before .before .before .before .before .before .before .before .before .before .args .lines .now) (c .before .before .before .before .before .before .before .before .before .before .before .before .before .args .buf .now) (omega (arith, c .before .before .before .before .before .before .if2 .left, sizes (messageHead (c .before .before .before .before .before .before .before .before .before .before .before .before .before .args .id) (c .before .before .before .before .before .before .before .before .before .before .before .before .before .args .deps .at)) (c .before .before .before .before .before .before .before .before .before .before .before .before .before .args .lines .now) (c .before .before .before .before .before .before .before .before .before .before .before .before .before .args .buf .now) (c .before .before .before .before .before .before .before .before .message-head-size .ensures .size))) (c .before .before .before .put-message-head .ensures)
+then-text-requires c κs =
+    let at-put-message-head = c .before .before .before in
+    let at-if2 = at-put-message-head .before .before .before in
+    let at-message-head-size = at-if2 .before .before in
+    let at-start = at-message-head-size .before .before .before .before .before in
+    rest-room (messageHead (at-start .args .id) (at-start .args .deps .at)) (at-start .args .lines .now) (at-start .args .buf .now)
+    (omega (
+      arith,
+      at-if2 .if2 .left,
+      sizes (messageHead (at-start .args .id) (at-start .args .deps .at))
+          (at-start .args .lines .now) (at-start .args .buf .now) (at-message-head-size .message-head-size .ensures .size),
+    ))
+    (at-put-message-head .put-message-head .ensures)
 
 same-length : tie.Need-same-length
 same-length c = search needs
 
 returns-3 : tie.Need-returns-3
-returns-3 c = written _ _ (omega (arith, c .before .before .before .before .before .before .before .before .before .if2 .left, sizes (messageHead (c .before .before .before .before .before .before .before .before .before .before .before .before .before .before .before .before .args .id) (c .before .before .before .before .before .before .before .before .before .before .before .before .before .before .before .before .args .deps .at)) (c .before .before .before .before .before .before .before .before .before .before .before .before .before .before .before .before .args .lines .now) (c .before .before .before .before .before .before .before .before .before .before .before .before .before .before .before .before .args .buf .now) (c .before .before .before .before .before .before .before .before .before .before .before .message-head-size .ensures .size))) (both (messageHead (c .before .before .before .before .before .before .before .before .before .before .before .before .before .before .before .before .args .id) (c .before .before .before .before .before .before .before .before .before .before .before .before .before .before .before .before .args .deps .at)) (c .before .before .before .before .before .before .before .before .before .before .before .before .before .before .before .before .args .lines .now) (c .before .before .before .before .before .before .before .before .before .before .before .before .before .before .before .before .args .buf .now) (omega (arith, c .before .before .before .before .before .before .before .before .before .if2 .left, sizes (messageHead (c .before .before .before .before .before .before .before .before .before .before .before .before .before .before .before .before .args .id) (c .before .before .before .before .before .before .before .before .before .before .before .before .before .before .before .before .args .deps .at)) (c .before .before .before .before .before .before .before .before .before .before .before .before .before .before .before .before .args .lines .now) (c .before .before .before .before .before .before .before .before .before .before .before .before .before .before .before .before .args .buf .now) (c .before .before .before .before .before .before .before .before .before .before .before .message-head-size .ensures .size))) (c .before .before .before .before .before .before .put-message-head .ensures) (c .before .before .then-text .ensures))
+returns-3 c =
+    let at-then-text = c .before .before in
+    let at-put-message-head = at-then-text .before .before .before .before in
+    let at-if2 = at-put-message-head .before .before .before in
+    let at-message-head-size = at-if2 .before .before in
+    let at-start = at-message-head-size .before .before .before .before .before in
+    written _ _ (omega (
+      arith,
+      at-if2 .if2 .left,
+      sizes (messageHead (at-start .args .id) (at-start .args .deps .at))
+          (at-start .args .lines .now) (at-start .args .buf .now) (at-message-head-size .message-head-size .ensures .size),
+    ))
+    (both (messageHead (at-start .args .id) (at-start .args .deps .at)) (at-start .args .lines .now) (at-start .args .buf .now)
+    (omega (
+      arith,
+      at-if2 .if2 .left,
+      sizes (messageHead (at-start .args .id) (at-start .args .deps .at))
+          (at-start .args .lines .now) (at-start .args .buf .now) (at-message-head-size .message-head-size .ensures .size),
+    ))
+    (at-put-message-head .put-message-head .ensures) (at-then-text .then-text .ensures))
 
 pub message-spec : {M : Type 1} → statement M
 message-spec =

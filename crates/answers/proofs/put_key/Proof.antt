@@ -15,10 +15,14 @@ is-told-requires : tie.Need-is-told-requires
 is-told-requires c κs = search needs
 
 mul-word : tie.Need-mul-word
-mul-word c = omega (arith, c .before .before .before .before .before .before .pre .0)
+mul-word c =
+    let at-pre = c .before .before .before .before .before .before in
+    omega (arith, at-pre .pre .0)
 
 add-word : tie.Need-add-word
-add-word c = omega (arith, c .before .before .before .before .before .before .pre .0)
+add-word c =
+    let at-pre = c .before .before .before .before .before .before in
+    omega (arith, at-pre .pre .0)
 
 word-requires-2 : tie.Need-word-requires-2
 word-requires-2 c κs = search needs
@@ -27,31 +31,66 @@ short-of-requires : tie.Need-short-of-requires
 short-of-requires c κs = search needs
 
 mul-word-2 : tie.Need-mul-word-2
-mul-word-2 c = omega (arith, c .before .before .before .before .before .before .before .before .before .pre .0)
+mul-word-2 c =
+    let at-pre = c .before .before .before .before .before .before .before .before .before in
+    omega (arith, at-pre .pre .0)
 
 word-requires-3 : tie.Need-word-requires-3
 word-requires-3 c κs = search needs
 
 mul-word-3 : tie.Need-mul-word-3
-mul-word-3 c = omega (arith, c .before .before .before .before .before .before .before .before .before .before .pre .0)
+mul-word-3 c =
+    let at-pre = c .before .before .before .before .before .before .before .before .before .before in
+    omega (arith, at-pre .pre .0)
 
 add-word-2 : tie.Need-add-word-2
-add-word-2 c = omega (arith, c .before .before .before .before .before .before .before .before .before .before .pre .0)
+add-word-2 c =
+    let at-pre = c .before .before .before .before .before .before .before .before .before .before in
+    omega (arith, at-pre .pre .0)
 
 word-requires-4 : tie.Need-word-requires-4
 word-requires-4 c κs = search needs
 
 put-key-row-requires : tie.Need-put-key-row-requires
-put-key-row-requires c κs = (c .before .before .before .short-of .ensures .1, rw (key-here (c .before .before .before .before .before .before .before .before .before .before .before .args .heads .now) (c .before .before .before .before .before .before .before .before .before .before .before .args .keys .now) (c .before .before .before .before .before .before .before .before .before .before .before .args .depth) (c .before .before .before .before .before .before .before .before .before .before .before .args .row) (c .before .before .before .before .before .before .before .word .ensures) (c .before .before .before .before .before .before .is-told .ensures) (c .before .before .before .before .before .if1 .taken) (c .before .word3 .ensures) (c .word4 .ensures) (c .before .before .before .before .word2 .ensures) (c .before .before .before .short-of .ensures .0)) (c .before .before .before .before .before .before .before .before .before .before .before .pre .1))
+put-key-row-requires c κs =
+    let at-short-of = c .before .before .before in
+    let at-word2 = at-short-of .before in
+    let at-if1 = at-word2 .before in
+    let at-is-told = at-if1 .before in
+    let at-word = at-is-told .before in
+    let at-start = at-word .before .before .before .before in (
+      at-short-of .short-of .ensures .1,
+      rw (key-here (at-start .args .heads .now) (at-start .args .keys .now)
+          (at-start .args .depth) (at-start .args .row) (at-word .word .ensures) (at-is-told .is-told .ensures) (at-if1 .if1 .taken)
+          (c .before .word3 .ensures) (c .word4 .ensures) (at-word2 .word2 .ensures) (at-short-of .short-of .ensures .0))
+          (at-start .pre .1),
+    )
 
 same-length : tie.Need-same-length
 same-length c = search needs
 
 returns : tie.Need-returns
-returns c = wrote-as (key-here (c .before .before .before .before .before .before .before .before .before .before .before .before .before .before .args .heads .now) (c .before .before .before .before .before .before .before .before .before .before .before .before .before .before .args .keys .now) (c .before .before .before .before .before .before .before .before .before .before .before .before .before .before .args .depth) (c .before .before .before .before .before .before .before .before .before .before .before .before .before .before .args .row) (c .before .before .before .before .before .before .before .before .before .before .word .ensures) (c .before .before .before .before .before .before .before .before .before .is-told .ensures) (c .before .before .before .before .before .before .before .before .if1 .taken) (c .before .before .before .before .word3 .ensures) (c .before .before .before .word4 .ensures) (c .before .before .before .before .before .before .before .word2 .ensures) (c .before .before .before .before .before .before .short-of .ensures .0)) (c .before .before .put-key-row .ensures)
+returns c =
+    let at-put-key-row = c .before .before in
+    let at-word4 = at-put-key-row .before in
+    let at-word3 = at-word4 .before in
+    let at-short-of = at-word3 .before .before in
+    let at-word2 = at-short-of .before in
+    let at-if1 = at-word2 .before in
+    let at-is-told = at-if1 .before in
+    let at-word = at-is-told .before in
+    let at-start = at-word .before .before .before .before in
+    wrote-as (key-here (at-start .args .heads .now) (at-start .args .keys .now) (at-start .args .depth) (at-start .args .row)
+    (at-word .word .ensures) (at-is-told .is-told .ensures) (at-if1 .if1 .taken) (at-word3 .word3 .ensures)
+    (at-word4 .word4 .ensures) (at-word2 .word2 .ensures) (at-short-of .short-of .ensures .0))
+    (at-put-key-row .put-key-row .ensures)
 
 returns-2 : tie.Need-returns-2
-returns-2 c = untold-wrote (c .before .before .before .before .before .before .args .heads .now) (c .before .before .before .before .before .before .args .keys .now) (c .before .before .before .before .before .before .args .depth) (c .before .before .before .before .before .before .args .row) (c .before .before .word .ensures) (c .before .is-told .ensures) (c .if1 .left) (c .before .before .before .before .before .before .args .buf .now)
+returns-2 c =
+    let at-word = c .before .before in
+    let at-start = at-word .before .before .before .before in
+    untold-wrote (at-start .args .heads .now) (at-start .args .keys .now) (at-start .args .depth) (at-start .args .row)
+    (at-word .word .ensures) (c .before .is-told .ensures) (c .if1 .left) (at-start .args .buf .now)
 
 pub put-key-spec : {M : Type 1} → statement M
 put-key-spec =

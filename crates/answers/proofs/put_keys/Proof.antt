@@ -10,13 +10,16 @@ use Rattle.answers.proofs.put_keys.Statement.{statement}
 use Rattle.answers.proofs.put_keys.Tie as tie
 
 abbrev Inv-loop : tie.InvT-loop
-Inv-loop buf₀ heads keys from n depth at₀ i₀ left₀ buf at i left = Writing (keysFrom heads keys depth from n) buf₀ (keysFrom heads keys depth i left) buf at × (i + left ≡ from + n)
+Inv-loop buf₀ heads keys from n depth at₀ i₀ left₀ buf at i left = Writing (keysFrom heads keys depth from n) buf₀
+    (keysFrom heads keys depth i left) buf at × (i + left ≡ from + n)
 
 abbrev μ-loop : tie.MeasureT-loop
 μ-loop buf₀ heads keys from n depth at₀ i₀ left₀ buf at i left = left
 
 loop-holds : tie.Need-loop-holds Inv-loop μ-loop
-loop-holds c = (begun _ _ (c .before .before .before .pre .1), refl)
+loop-holds c =
+    let at-pre = c .before .before .before in
+    (begun _ _ (at-pre .pre .1), refl)
 
 sub-put-key : tie.Need-sub-put-key Inv-loop μ-loop
 sub-put-key c = omega (arith, last-room (c .before .loop .inv .0))
@@ -28,28 +31,66 @@ part-put-key-end : tie.Need-part-put-key-end Inv-loop μ-loop
 part-put-key-end c = omega (arith, last-room (c .before .loop .inv .0))
 
 put-key-requires : tie.Need-put-key-requires Inv-loop μ-loop
-put-key-requires c κs = (omega (arith, c .before .before .loop .inv .1, c .before .before .before .before .before .before .pre .0, c .before .loop-test .taken), write-room (keyText (c .before .before .before .before .before .before .args .heads .now) (c .before .before .before .before .before .before .args .keys .now) (c .before .before .before .before .before .before .args .depth)) (λ i. i + 1) (c .before .before .loop .i) (c .before .before .loop .left) (c .before .before .loop .inv .0) (c .before .loop-test .taken))
+put-key-requires c κs =
+    let at-loop = c .before .before in
+    let at-pre = at-loop .before .before .before .before in (
+      omega (arith, at-loop .loop .inv .1, at-pre .pre .0, c .before .loop-test .taken),
+      write-room
+          (keyText (at-pre .args .heads .now) (at-pre .args .keys .now) (at-pre .args .depth)) (λ i. i + 1) (at-loop .loop .i)
+          (at-loop .loop .left) (at-loop .loop .inv .0) (c .before .loop-test .taken),
+    )
 
 add-at : tie.Need-add-at Inv-loop μ-loop
-add-at c = omega (arith, write-fits (keyText (c .before .before .before .before .before .before .before .before .before .args .heads .now) (c .before .before .before .before .before .before .before .before .before .args .keys .now) (c .before .before .before .before .before .before .before .before .before .args .depth)) (λ i. i + 1) (c .before .before .before .before .before .loop .i) (c .before .before .before .before .before .loop .left) (c .before .before .before .before .before .loop .inv .0) (c .before .before .before .before .loop-test .taken) (c .before .before .put-key .ensures), same-long (c .before .before .before .before .before .loop .inv .0))
+add-at c =
+    let at-put-key = c .before .before in
+    let at-loop-test = at-put-key .before .before in
+    let at-loop = at-loop-test .before in
+    let at-start = at-loop .before .before .before .before in
+    omega (
+      arith,
+      write-fits (keyText (at-start .args .heads .now) (at-start .args .keys .now) (at-start .args .depth)) (λ i. i + 1)
+          (at-loop .loop .i) (at-loop .loop .left) (at-loop .loop .inv .0) (at-loop-test .loop-test .taken)
+          (at-put-key .put-key .ensures),
+      same-long (at-loop .loop .inv .0),
+    )
 
 add-i : tie.Need-add-i Inv-loop μ-loop
-add-i c = omega (arith, c .before .before .before .before .before .loop .inv .1, c .before .before .before .before .before .before .before .before .before .pre .0, c .before .before .before .before .loop-test .taken)
+add-i c =
+    let at-loop-test = c .before .before .before .before in
+    let at-loop = at-loop-test .before in
+    let at-pre = at-loop .before .before .before .before in
+    omega (arith, at-loop .loop .inv .1, at-pre .pre .0, at-loop-test .loop-test .taken)
 
 sub-left : tie.Need-sub-left Inv-loop μ-loop
-sub-left c = omega (arith, c .before .before .before .before .loop-test .taken)
+sub-left c =
+    let at-loop-test = c .before .before .before .before in
+    omega (arith, at-loop-test .loop-test .taken)
 
 loop-less : tie.Need-loop-less Inv-loop μ-loop
-loop-less c = omega (arith, c .before .before .before .before .loop-test .taken)
+loop-less c =
+    let at-loop-test = c .before .before .before .before in
+    omega (arith, at-loop-test .loop-test .taken)
 
 loop-again : tie.Need-loop-again Inv-loop μ-loop
-loop-again c = (write-more (keyText (c .before .before .before .before .before .before .before .before .before .args .heads .now) (c .before .before .before .before .before .before .before .before .before .args .keys .now) (c .before .before .before .before .before .before .before .before .before .args .depth)) (λ i. i + 1) (c .before .before .before .before .before .loop .i) (c .before .before .before .before .before .loop .left) (c .before .before .before .before .before .loop .inv .0) (c .before .before .before .before .loop-test .taken) (c .before .before .put-key .ensures), omega (arith, c .before .before .before .before .before .loop .inv .1, c .before .before .before .before .loop-test .taken))
+loop-again c =
+    let at-put-key = c .before .before in
+    let at-loop-test = at-put-key .before .before in
+    let at-loop = at-loop-test .before in
+    let at-start = at-loop .before .before .before .before in (
+      write-more (keyText (at-start .args .heads .now) (at-start .args .keys .now) (at-start .args .depth)) (λ i. i + 1)
+          (at-loop .loop .i) (at-loop .loop .left) (at-loop .loop .inv .0) (at-loop-test .loop-test .taken)
+          (at-put-key .put-key .ensures),
+      omega (arith, at-loop .loop .inv .1, at-loop-test .loop-test .taken),
+    )
 
 same-length : tie.Need-same-length Inv-loop μ-loop
 same-length c = same-long (c .before .loop .inv .0)
 
 returns : tie.Need-returns Inv-loop μ-loop
-returns c = write-all (keyText (c .before .before .before .before .before .args .heads .now) (c .before .before .before .before .before .args .keys .now) (c .before .before .before .before .before .args .depth)) (λ i. i + 1) (c .before .loop .i) (c .before .loop .left) (c .before .loop .inv .0) (c .loop-test .left)
+returns c =
+    let at-start = c .before .before .before .before .before in
+    write-all (keyText (at-start .args .heads .now) (at-start .args .keys .now) (at-start .args .depth)) (λ i. i + 1)
+    (c .before .loop .i) (c .before .loop .left) (c .before .loop .inv .0) (c .loop-test .left)
 
 pub put-keys-spec : {M : Type 1} → statement M
 put-keys-spec =

@@ -19,16 +19,25 @@ loop-holds : tie.Need-loop-holds Inv-loop μ-loop
 loop-holds c = count-none (c .before .args .heads .now) (c .before .args .depth) (c .before .args .from) (c .before .args .rows)
 
 add-word : tie.Need-add-word Inv-loop μ-loop
-add-word c = omega (arith, c .before .loop .inv .few, c .before .before .before .pre, c .loop-test .taken)
+add-word c =
+    let at-pre = c .before .before .before in
+    omega (arith, c .before .loop .inv .few, at-pre .pre, c .loop-test .taken)
 
 word-requires : tie.Need-word-requires Inv-loop μ-loop
 word-requires c κs = search needs
 
 returns : tie.Need-returns Inv-loop μ-loop
-returns c = count-stop (c .before .before .before .before .before .args .heads .now) (c .before .before .before .before .before .args .depth) (c .before .before .before .loop .inv) (c .before .word .ensures) (c .if1 .taken)
+returns c =
+    let at-loop = c .before .before .before in
+    let at-start = at-loop .before .before in
+    count-stop (at-start .args .heads .now) (at-start .args .depth) (at-loop .loop .inv) (c .before .word .ensures) (c .if1 .taken)
 
 add-n : tie.Need-add-n Inv-loop μ-loop
-add-n c = omega (arith, c .before .before .before .loop .inv .few, c .before .before .before .before .before .pre, c .before .before .loop-test .taken)
+add-n c =
+    let at-loop-test = c .before .before in
+    let at-loop = at-loop-test .before in
+    let at-pre = at-loop .before .before in
+    omega (arith, at-loop .loop .inv .few, at-pre .pre, at-loop-test .loop-test .taken)
 
 sub-left-2 : tie.Need-sub-left-2 Inv-loop μ-loop
 sub-left-2 c = omega (arith, c .before .before .loop-test .taken)
@@ -37,10 +46,17 @@ loop-less : tie.Need-loop-less Inv-loop μ-loop
 loop-less c = omega (arith, c .before .before .loop-test .taken)
 
 loop-again : tie.Need-loop-again Inv-loop μ-loop
-loop-again c = count-more (c .before .before .before .before .before .args .heads .now) (c .before .before .before .before .before .args .depth) (c .before .before .before .loop .inv) (c .before .word .ensures) (c .before .before .loop-test .taken) (c .if1 .left)
+loop-again c =
+    let at-loop-test = c .before .before in
+    let at-loop = at-loop-test .before in
+    let at-start = at-loop .before .before in
+    count-more (at-start .args .heads .now) (at-start .args .depth) (at-loop .loop .inv) (c .before .word .ensures)
+    (at-loop-test .loop-test .taken) (c .if1 .left)
 
 returns-2 : tie.Need-returns-2 Inv-loop μ-loop
-returns-2 c = count-all (c .before .before .before .args .heads .now) (c .before .before .before .args .depth) (c .before .loop .inv) (c .loop-test .left)
+returns-2 c =
+    let at-start = c .before .before .before in
+    count-all (at-start .args .heads .now) (at-start .args .depth) (c .before .loop .inv) (c .loop-test .left)
 
 pub rows-under-spec : {M : Type 1} → statement M
 rows-under-spec =

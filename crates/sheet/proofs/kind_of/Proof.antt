@@ -116,22 +116,19 @@ returns-8 c =
 
 returns-9 : tie.Need-returns-9
 unfolding kindIn
-returns-9 c =
-    let at-if5 = c .before .before in
-    let at-if3 = at-if5 .before in
-    let at-if2 = at-if3 .before in
-    let at-if1 = at-if2 .before in (
-      rw (
-        ne-eqb _ _ (at-if1 .if1 .left),
-        ne-eqb _ _ (at-if2 .if2 .left),
-        ne-eqb _ _ (at-if3 .if3 .left),
-        ne-eqb _ _
-            (at-if5 .if5 .left),
-        le-ltb _ _ (c .before .if7 .left),
-        le-ltb _ _ (c .if8 .left),
-      ),
-      omega arith,
-    )
+returns-9 c = (
+  rw (
+    ne-eqb _ _ (c .before .before .before .before .before .if1 .left),
+    ne-eqb _ _
+        (c .before .before .before .before .if2 .left),
+    ne-eqb _ _ (c .before .before .before .if3 .left),
+    ne-eqb _ _
+        (c .before .before .if5 .left),
+    le-ltb _ _ (c .before .if7 .left),
+    le-ltb _ _ (c .if8 .left),
+  ),
+  omega arith,
+)
 
 pub kind-of-spec : {M : Type 1} → statement M
 kind-of-spec =
