@@ -119,11 +119,9 @@ unfolding kindIn
 returns-9 c = (
   rw (
     ne-eqb _ _ (c .before .before .before .before .before .if1 .left),
-    ne-eqb _ _
-        (c .before .before .before .before .if2 .left),
+    ne-eqb _ _ (c .before .before .before .before .if2 .left),
     ne-eqb _ _ (c .before .before .before .if3 .left),
-    ne-eqb _ _
-        (c .before .before .if5 .left),
+    ne-eqb _ _ (c .before .before .if5 .left),
     le-ltb _ _ (c .before .if7 .left),
     le-ltb _ _ (c .if8 .left),
   ),
