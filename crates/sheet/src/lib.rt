@@ -16,6 +16,7 @@ use meaning::Counters;
 use meaning::Saved;
 use tables::Counts;
 use tables::Stop;
+use tables::word;
 use writers::Kind;
 use writers::put_text;
 ghost use mathlib.Core.Path.{_≡_};
@@ -31,13 +32,6 @@ ghost use Rattle.tables.specs.Standing.{first};
 ghost use Rattle.tables.specs.Holding.{four};
 ghost use Rattle.sheet.specs.Texts.{kindIn, spotIn, placeText, valueText, marksText, valuesText, rowText, rowsText, sheetText, Near};
 ghost use Rattle.sheet.specs.Saving.{Saving};
-
-// What a table has at a place, and 0 behind its end.
-fn word(t: &[u64], i: usize) -> u64
-    ensures { λ r. ⌜ r ≡ getD (now (t .entry)) i 0 ⌝ }
-{
-    if i < t.len() { t[i] } else { 0 }
-}
 
 // The kind of a value by its word, and by the number that it is.
 fn kind_of(kind: u64, n: u64) -> Kind

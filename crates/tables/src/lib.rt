@@ -3,7 +3,7 @@
 // three words a row; `marks` the ids that mark the rows, row after row; `values` six words a value, row after row.
 ghost use mathlib.Core.Path.{_≡_};
 ghost use Prim.Native.Nat.{_+_, _*_, _-_, _≤_, _<_};
-ghost use lib.ListN.{length};
+ghost use lib.ListN.{length, getD};
 ghost use Rattle.tables.specs.Seek.{turn, turnNumber, passesOne, goesOver, isWanted, Searches, holdsIf, sought};
 ghost use Rattle.tables.specs.Stands.{FindsIn, Knows};
 
@@ -29,6 +29,13 @@ pub struct Want {
     pub hi: u64,
     pub lo: u64,
     pub len: u64,
+}
+
+// What a table has at a place, and 0 behind its end.
+pub fn word(t: &[u64], i: usize) -> u64
+    ensures { λ r. ⌜ r ≡ getD (now (t .entry)) i 0 ⌝ }
+{
+    if i < t.len() { t[i] } else { 0 }
 }
 
 // The key that is looked for, beside a row's: before it (0), the same (1), or beyond it (2).
