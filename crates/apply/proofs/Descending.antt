@@ -26,7 +26,8 @@ use Rattle.tables.specs.declared.Stop.{Stop}
 use Rattle.apply.specs.Reach.{blockAt, changing}
 use Rattle.apply.specs.Going.{words-long, words-none, inserts-only, goes-on, third-word, Goes, goes}
 use Rattle.words.specs.Gap.{Gap, Leaves}
-use Rattle.apply.specs.Doing.{isInsert, isDelete, marksBy, withMarks, mayMake, insertsHere, wantOf}
+use Rattle.tables.specs.Wants.{wantOf}
+use Rattle.apply.specs.Doing.{isInsert, isDelete, marksBy, withMarks, mayMake, insertsHere}
 use Rattle.apply.specs.Doing.{Spare, Does, Passes, Arrives, Stays, Leads}
 use Rattle.apply.specs.Doing.{Finishes, Enters, Inserts, Descends}
 use Rattle.apply.specs.declared.Act.{Act}

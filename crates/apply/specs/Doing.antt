@@ -94,10 +94,6 @@ mayMake len left deed = cond (ltb 16 len) false (cond (ltb 0 left) true (not (is
 unfoldable pub insertsHere : ℕ → Deed → Bool
 insertsHere left deed = cond (eqb left 3) (isInsert deed) false
 
--- the search for a key of the way, by its words
-unfoldable pub wantOf : ℕ → ℕ → ℕ → ℕ → Want
-wantOf n hi lo len = record { kind = cond (ltb 16 len) 1 0; depth = n; hi = hi; lo = lo; len = len }
-
 -- room for so many more rows, marks and values
 pub record Spare (c : Counts) (rows marks values : ℕ) : Type 0 where
   pub rows-spare : c .rows + rows ≤ 264

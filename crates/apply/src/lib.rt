@@ -8,11 +8,13 @@ use steps::Gapped;
 use tables::Counts;
 use tables::Stop;
 use tables::Want;
+use tables::want_of;
 ghost use Prim.Native.Nat.{_+_};
 ghost use mathlib.Core.Path.{_≡_};
 ghost use mathlib.Core.List.{[], _∷_};
+ghost use Rattle.tables.specs.Wants.{wantOf};
 ghost use Rattle.tables.specs.Holding.{four};
-ghost use Rattle.apply.specs.Doing.{isDelete, isInsert, givenIn, branchOf, stringKind, kindOf, partsOf, mayMake, insertsHere, wantOf};
+ghost use Rattle.apply.specs.Doing.{isDelete, isInsert, givenIn, branchOf, stringKind, kindOf, partsOf, mayMake, insertsHere};
 ghost use Rattle.apply.specs.Doing.{Passes, Leads, Seats, Gives, Finishes, Enters, Inserts, Descends};
 
 // What is done, and by which operation.
@@ -141,28 +143,6 @@ fn may_make(len: u64, left: usize, deed: Deed) -> bool
         return true;
     }
     !is_delete(deed)
-}
-
-// The search for a key of the way among rows of depth n.
-fn want_of(n: u64, hi: u64, lo: u64, len: u64) -> Want
-    ensures { λ r. ⌜ r ≡ wantOf n hi lo len ⌝ }
-{
-    if len > 16 {
-        return Want {
-            kind: 1,
-            depth: n,
-            hi,
-            lo,
-            len,
-        };
-    }
-    Want {
-        kind: 0,
-        depth: n,
-        hi,
-        lo,
-        len,
-    }
 }
 
 // The place behind a row.

@@ -5,6 +5,7 @@ ghost use mathlib.Core.Path.{_≡_};
 ghost use Prim.Native.Nat.{_+_, _*_, _-_, _≤_, _<_};
 ghost use lib.ListN.{length, getD};
 ghost use Rattle.tables.specs.Seek.{turn, turnNumber, passesOne, goesOver, isWanted, Searches, holdsIf, sought};
+ghost use Rattle.tables.specs.Wants.{wantOf};
 ghost use Rattle.tables.specs.Stands.{FindsIn, Knows};
 
 // A place in the tables: a row, and how many marks and values the rows before it have.
@@ -36,6 +37,28 @@ pub fn word(t: &[u64], i: usize) -> u64
     ensures { λ r. ⌜ r ≡ getD (now (t .entry)) i 0 ⌝ }
 {
     if i < t.len() { t[i] } else { 0 }
+}
+
+// The search for a key or an element among the rows of depth n, by its three words: in an element's third stands 17.
+pub fn want_of(n: u64, hi: u64, lo: u64, len: u64) -> Want
+    ensures { λ r. ⌜ r ≡ wantOf n hi lo len ⌝ }
+{
+    if len > 16 {
+        return Want {
+            kind: 1,
+            depth: n,
+            hi,
+            lo,
+            len,
+        };
+    }
+    Want {
+        kind: 0,
+        depth: n,
+        hi,
+        lo,
+        len,
+    }
 }
 
 // The key that is looked for, beside a row's: before it (0), the same (1), or beyond it (2).

@@ -20,6 +20,7 @@ use Rattle.rows.specs.Within.{underChange, GoesOn, shallow-rest, change-within,
 use Rattle.message.specs.Means.{wayWords, prevWords}
 use Rattle.tables.specs.Words.{spotWords}
 use Rattle.tables.specs.Finds.{GoodSpot}
+use Rattle.tables.specs.Wants.{passOf, meantOf, spot-agrees, spot-tells}
 use Rattle.tables.specs.Standing.{behind}
 use Rattle.tables.specs.Holding.{Holds, four}
 use Rattle.tables.specs.declared.Counts.{Counts}
@@ -28,7 +29,7 @@ use Rattle.weigh.specs.declared.Sight.{Sight}
 use Rattle.weigh.specs.declared.Weight.{Weight}
 use Rattle.weigh.specs.Goes.{RowPast}
 use Rattle.weigh.specs.Weighs.{Sees, missing, standing, Looks, orNew, wayNumber, Weighs, nothingWeighed, marked, carried, WayWeighed}
-use Rattle.weigh.proofs.Looks.{passOf, meantOf, spot-agrees, spot-tells, false-true}
+use Rattle.weigh.proofs.Looks.{false-true}
 use Rattle.weigh.proofs.Weights.{carried-places, carried-marks, marked-marks, marked-places, mark-is}
 use Rattle.weigh.proofs.Ways.{into, locateAt, sees-there, carry-into}
 
@@ -189,7 +190,7 @@ module _ (h k m v : List ℕ) (rows : ℕ) (from : Stop) (n : ℕ) (hangs : Bool
       go c A B p w H q f e t g good ok N =
           let rs = cond hangs B [] in
           let L = locateAt n p rs in
-          let S = look m v c A B (passOf p) (meantOf p) H q f (spot-agrees n p hi lo len e good) (spot-tells n p hi lo len e good) in
+          let S = look m v c A B (passOf p) (meantOf p) H q f (spot-agrees n hi lo len p e good) (spot-tells n hi lo len p e good) in
           let on = goes-on w (λ z. more (omega (arith, long, length-drop 3 way, ap length (t ∙ z)))) in
           let W = below h k m v rows n d deed (drop 3 way) s next x past under c (A ++ B) w L H q S t g ok N in
           let W′ = subst (λ us. Weighs (ledRows d (suc n) w (underOf L)) (underChange d (suc n) w us) x) (sym (or-new n p L)) W in

@@ -6,15 +6,15 @@ use meaning::Counters;
 use message::Deed;
 use readers::Given;
 use tables::Stop;
-use tables::Want;
 use tables::find;
 use tables::known;
+use tables::want_of;
 use words::covered_marks;
 use words::covered_values;
 ghost use mathlib.Core.Path.{_≡_};
 ghost use Prim.Native.Nat.{ℕ, _<_, _≤_};
 ghost use mathlib.Core.List.{List, [], _∷_};
-ghost use Rattle.weigh.specs.Weighs.{wantOf, Looks, SightGone, PlaceWeighed, WayWeighed, Weighed};
+ghost use Rattle.weigh.specs.Weighs.{Looks, SightGone, PlaceWeighed, WayWeighed, Weighed};
 ghost use Rattle.weigh.specs.Weighs.{plainGiven, deedNumber, marked, carried, nothingWeighed, elementWeighed};
 ghost use Rattle.weigh.specs.Goes.{RowGone, UnderGone, BlockGone, RowPast, RowDeep};
 
@@ -184,28 +184,6 @@ pub struct Weight {
     pub values: usize,
     pub gone_marks: usize,
     pub gone_values: usize,
-}
-
-// The search for a key by its three words: an element id has 17 in the third.
-fn want_of(n: u64, hi: u64, lo: u64, len: u64) -> Want
-    ensures { λ w. ⌜ w ≡ wantOf n hi lo len ⌝ }
-{
-    if len == 17 {
-        return Want {
-            kind: 1,
-            depth: n,
-            hi: hi,
-            lo: lo,
-            len: len,
-        };
-    }
-    Want {
-        kind: 0,
-        depth: n,
-        hi: hi,
-        lo: lo,
-        len: len,
-    }
 }
 
 // Looks for the place under a key among the rows from a place on, of depth n; nothing is there if nothing hangs there.
