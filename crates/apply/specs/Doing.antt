@@ -107,12 +107,6 @@ pub record Does (U : Tables) (c e : Counts) (rows marks values : ℕ) (rs : List
   pub marks-more : e .marks ≤ c .marks + marks
   pub values-more : e .values ≤ c .values + values
 
--- The place behind a row.
-abbrev pub Passes : List ℕ → Stop → Stop → Type 0
-Passes h s r =
-    (k m v : List ℕ) (c : Counts) (A R : List Row) (row : Row) → Holds (four h k m v) c (A ++ row ∷ R) → s ≡ behind A
-    → r ≡ behind (A ++ row ∷ [])
-
 -- The child that a search leads to.
 
 -- it can be made

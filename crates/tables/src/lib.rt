@@ -4,7 +4,7 @@
 ghost use mathlib.Core.Path.{_≡_};
 ghost use Prim.Native.Nat.{_+_, _*_, _-_, _≤_, _<_};
 ghost use lib.ListN.{length, getD};
-ghost use Rattle.tables.specs.Seek.{turn, turnNumber, passesOne, goesOver, isWanted, Searches, holdsIf, sought};
+ghost use Rattle.tables.specs.Seek.{turn, turnNumber, passesOne, goesOver, isWanted, Passes, Searches, holdsIf, sought};
 ghost use Rattle.tables.specs.Wants.{wantOf};
 ghost use Rattle.tables.specs.Stands.{FindsIn, Knows};
 
@@ -37,6 +37,27 @@ pub fn word(t: &[u64], i: usize) -> u64
     ensures { λ r. ⌜ r ≡ getD (now (t .entry)) i 0 ⌝ }
 {
     if i < t.len() { t[i] } else { 0 }
+}
+
+// The place behind a row, by the row's head. Where no row of a table can stand, that place itself.
+pub fn past(heads: &[u64], s: Stop) -> Stop
+    ensures { λ r. ⌜ Passes (now (heads .entry)) s r ⌝ }
+{
+    if s.row > 1024 {
+        return s;
+    }
+    if s.mark > 2097152 {
+        return s;
+    }
+    if s.value > 524288 {
+        return s;
+    }
+    let h = word(heads, s.row);
+    Stop {
+        row: s.row + 1,
+        mark: s.mark + (h / 128 % 2048) as usize,
+        value: s.value + (h / 262144 % 512) as usize,
+    }
 }
 
 // The search for a key or an element among the rows of depth n, by its three words: in an element's third stands 17.

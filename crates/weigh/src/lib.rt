@@ -8,6 +8,7 @@ use readers::Given;
 use tables::Stop;
 use tables::find;
 use tables::known;
+use tables::past;
 use tables::want_of;
 use words::covered_marks;
 use words::covered_values;
@@ -16,7 +17,7 @@ ghost use Prim.Native.Nat.{ℕ, _<_, _≤_};
 ghost use mathlib.Core.List.{List, [], _∷_};
 ghost use Rattle.weigh.specs.Weighs.{Looks, SightGone, PlaceWeighed, WayWeighed, Weighed};
 ghost use Rattle.weigh.specs.Weighs.{plainGiven, deedNumber, marked, carried, nothingWeighed, elementWeighed};
-ghost use Rattle.weigh.specs.Goes.{RowGone, UnderGone, BlockGone, RowPast, RowDeep};
+ghost use Rattle.weigh.specs.Goes.{RowGone, UnderGone, BlockGone, RowDeep};
 
 // How many marks and values go.
 pub struct Lost {
@@ -124,28 +125,6 @@ pub fn gone_under(
     sum
 }
 
-// The place behind a row.
-pub fn past_row(heads: &[u64], s: Stop) -> Stop
-    ensures { λ r. ⌜ RowPast (now (heads .entry)) s r ⌝ }
-{
-    let row = s.row;
-    if row >= heads.len() {
-        return s;
-    }
-    if s.mark > 1032 {
-        return s;
-    }
-    if s.value > 257 {
-        return s;
-    }
-    let h = heads[row];
-    Stop {
-        row: row + 1,
-        mark: s.mark + (h / 128 % 2048) as usize,
-        value: s.value + (h / 262144 % 512) as usize,
-    }
-}
-
 // How deep a row is.
 pub fn depth_at(heads: &[u64], row: usize) -> u64
     ensures { λ r. ⌜ RowDeep (now (heads .entry)) row r ⌝ }
@@ -161,7 +140,7 @@ pub fn gone(heads: &[u64], marks: &[u64], values: &[u64], rows: usize, s: Stop, 
     ensures { λ g. ⌜ BlockGone (now (heads .entry)) (now (marks .entry)) (now (values .entry)) rows s (d .at) g ⌝ }
 {
     let own = gone_row(heads, marks, values, s, d);
-    let next = past_row(heads, s);
+    let next = past(heads, s);
     let n = depth_at(heads, s.row);
     let under = gone_under(heads, marks, values, rows, next, n, d);
     Lost {
@@ -539,7 +518,7 @@ fn weigh_way(
         );
     }
     let s = look(heads, keys, rows, from, n, hangs, hi, lo, len);
-    let next = past_row(heads, s.at);
+    let next = past(heads, s.at);
     let under = weigh_way(
         heads,
         keys,
