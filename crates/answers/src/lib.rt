@@ -9,11 +9,12 @@ use lines::put_key_row;
 use lines::put_message_head;
 use meaning::Counters;
 use meaning::Saved;
+use tables::word;
 use writers::then_text;
 ghost use mathlib.Core.Path.{_≡_};
 ghost use mathlib.Core.List.{_++_};
 ghost use Prim.Native.Nat.{_+_, _*_, _-_, _≤_, _<_};
-ghost use lib.ListN.{length, getD};
+ghost use lib.ListN.{length};
 ghost use Rattle.decimal.specs.Take.{Wrote};
 ghost use Rattle.writers.specs.Sized.{Sized};
 ghost use Rattle.lines.specs.Rows.{idRow, messageHead};
@@ -50,13 +51,6 @@ pub fn element(buf: &mut [u8], id: u64) -> Saved
     }
     let written = put_id_row(buf, id, &t);
     Saved::Written { written }
-}
-
-// What a table has at a place, and 0 behind its end.
-fn word(t: &[u64], i: usize) -> u64
-    ensures { λ r. ⌜ r ≡ getD (now (t .entry)) i 0 ⌝ }
-{
-    if i < t.len() { t[i] } else { 0 }
 }
 
 // The length of a key: one that is too long counts as the empty key.

@@ -5,8 +5,7 @@ use mathlib.Core.Path.{_≡_}
 use mathlib.Core.Bool.{true, false, not}
 use borrow.Author.Tests.{lt-ltb, le-ltb, eq-eqb, ne-eqb}
 use Rattle.message.specs.declared.Deed.{Deed}
-use Rattle.tables.specs.declared.Want.{Want}
-use Rattle.apply.specs.Doing.{isDelete, isInsert, stringKind, mayMake, insertsHere, wantOf}
+use Rattle.apply.specs.Doing.{isDelete, isInsert, stringKind, mayMake, insertsHere}
 
 module _ (len left : ℕ) (deed : Deed) where
   pub make-never : 16 < len → false ≡ mayMake len left deed
@@ -20,15 +19,6 @@ module _ (len left : ℕ) (deed : Deed) where
   pub make-last : len ≤ 16 → left ≤ 0 → not (isDelete deed) ≡ mayMake len left deed
   unfolding mayMake
   make-last h g = rw (le-ltb 16 len h, le-ltb 0 left g)
-
-module _ (n hi lo len : ℕ) where
-  pub want-element : 16 < len → _≡_ {A = Want} (record { kind = 1; depth = n; hi = hi; lo = lo; len = len }) (wantOf n hi lo len)
-  unfolding wantOf
-  want-element h = rw (lt-ltb 16 len h)
-
-  pub want-key : len ≤ 16 → _≡_ {A = Want} (record { kind = 0; depth = n; hi = hi; lo = lo; len = len }) (wantOf n hi lo len)
-  unfolding wantOf
-  want-key h = rw (le-ltb 16 len h)
 
 pub kind-long : (n : ℕ) → 32 < n → 5 ≡ stringKind n
 unfolding stringKind

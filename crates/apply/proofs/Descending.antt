@@ -26,8 +26,11 @@ use Rattle.tables.specs.declared.Stop.{Stop}
 use Rattle.apply.specs.Reach.{blockAt, changing}
 use Rattle.apply.specs.Going.{words-long, words-none, inserts-only, goes-on, third-word, Goes, goes}
 use Rattle.words.specs.Gap.{Gap, Leaves}
-use Rattle.apply.specs.Doing.{isInsert, isDelete, marksBy, withMarks, mayMake, insertsHere, wantOf}
-use Rattle.apply.specs.Doing.{Spare, Does, Passes, Arrives, Stays, Leads}
+use Rattle.tables.specs.Seek.{Passes}
+use Rattle.tables.specs.Stands.{passes}
+use Rattle.tables.specs.Wants.{wantOf}
+use Rattle.apply.specs.Doing.{isInsert, isDelete, marksBy, withMarks, mayMake, insertsHere}
+use Rattle.apply.specs.Doing.{Spare, Does, Arrives, Stays, Leads}
 use Rattle.apply.specs.Doing.{Finishes, Enters, Inserts, Descends}
 use Rattle.apply.specs.declared.Act.{Act}
 use Rattle.apply.proofs.Gaps.{marks-all, marks-most, mark-further, mark-next, leaves-still}
@@ -221,7 +224,7 @@ module _ (o : Act) (n : ℕ) (ks : List ℕ) (from : Stop) (c : Counts) (h k m v
       let W = A ++ a .before in
       let r = a .row in
       let R = a .beyond in
-      let next = P k₁ m v (x .counts) W R r N (a .at) in
+      let next = passes h₁ k₁ m v (x .counts) W R r N (x .at) p P (a .at) in
       let L₁ = D (W ++ r ∷ []) R (G .next) (subst (Holds (four h₁ k₁ m v) (x .counts)) (sym (append-assoc W (r ∷ []) R)) N)
       next (qk ∙ ap (drop 3) words) (G .valid) (d ∙ G .deed-same) (ws ∙ G .value-same)
       (omega (arith, y)) (fr .2) (omega arith) (record {

@@ -1,6 +1,5 @@
 pub mod Gaps
 pub mod Cases
-pub mod Passing
 pub mod Leading
 pub mod Entering
 pub mod Seating

@@ -15,11 +15,12 @@ use Rattle.tables.specs.Finds.{wantElement, wantSeat, wantHead, element-agrees,
 use Rattle.tables.specs.Standing.{behind}
 use Rattle.tables.specs.Holding.{Holds, four, begins}
 use Rattle.tables.specs.Parts.{at-behind}
-use Rattle.tables.specs.Stands.{FindsIn, Knows}
+use Rattle.tables.specs.Seek.{Passes}
+use Rattle.tables.specs.Stands.{FindsIn, Knows, passes}
 use Rattle.tables.specs.declared.Counts.{Counts}
 use Rattle.tables.specs.declared.Stop.{Stop}
 use Rattle.apply.specs.Reach.{none-deeper, all-there, step-on, insert-after, insert-nowhere}
-use Rattle.apply.specs.Doing.{Passes, Sits, Seats}
+use Rattle.apply.specs.Doing.{Sits, Seats}
 
 -- the third word tells the head from an element
 head-third : (e x : ℕ) → x ∷ 0 ∷ 18 ∷ [] ≡ prevWords (after e) → ⊥
@@ -88,7 +89,7 @@ module _ (n i hi len rows : ℕ) (from : Stop) (h k : List ℕ) where
             let e₁ : (A ++ W) ++ x ∷ X ≡ A ++ B = append-assoc A W (x ∷ X) ∙ ap (A ++_) (ap (W ++_) (sym q) ∙ passed-rest (other hi) B) in
             let S = subst (Holds (four h k m v) c) (sym e₁) H in
             let s = F m v c A B _ H r b (element-agrees n hi) in
-            let d = P k m v c (A ++ W) X x S s in
+            let d = passes h k m v c (A ++ W) X x S t p P s in
             let e₂ : ((A ++ W) ++ x ∷ []) ++ X ≡ (A ++ W) ++ x ∷ X = append-assoc (A ++ W) (x ∷ []) X in
             let f = G m v c ((A ++ W) ++ x ∷ []) X _ (subst (Holds (four h k m v) c) (sym e₂) S) r d (seat-agrees n i) in
             let e₃ : ((A ++ W) ++ x ∷ []) ++ g X ≡ A ++ (W ++ x ∷ g X) = append-assoc (A ++ W) (x ∷ []) (g X) ∙ append-assoc A W

@@ -94,10 +94,6 @@ mayMake len left deed = cond (ltb 16 len) false (cond (ltb 0 left) true (not (is
 unfoldable pub insertsHere : ℕ → Deed → Bool
 insertsHere left deed = cond (eqb left 3) (isInsert deed) false
 
--- the search for a key of the way, by its words
-unfoldable pub wantOf : ℕ → ℕ → ℕ → ℕ → Want
-wantOf n hi lo len = record { kind = cond (ltb 16 len) 1 0; depth = n; hi = hi; lo = lo; len = len }
-
 -- room for so many more rows, marks and values
 pub record Spare (c : Counts) (rows marks values : ℕ) : Type 0 where
   pub rows-spare : c .rows + rows ≤ 264
@@ -110,12 +106,6 @@ pub record Does (U : Tables) (c e : Counts) (rows marks values : ℕ) (rs : List
   pub rows-more : e .rows ≤ c .rows + rows
   pub marks-more : e .marks ≤ c .marks + marks
   pub values-more : e .values ≤ c .values + values
-
--- The place behind a row.
-abbrev pub Passes : List ℕ → Stop → Stop → Type 0
-Passes h s r =
-    (k m v : List ℕ) (c : Counts) (A R : List Row) (row : Row) → Holds (four h k m v) c (A ++ row ∷ R) → s ≡ behind A
-    → r ≡ behind (A ++ row ∷ [])
 
 -- The child that a search leads to.
 

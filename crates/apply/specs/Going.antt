@@ -3,7 +3,7 @@
 use Prim.Native.Nat.{ℕ, suc, _+_, _≤_, _<_}
 use native.Mathlib.Omega.{arith}
 use mathlib.Core.Path.{_≡_, refl, sym, ap, ap₂, _∙_, subst}
-use mathlib.Core.Bool.{Bool, true, false, cond, not, true≢false}
+use mathlib.Core.Bool.{Bool, true, false, cond, true≢false}
 use mathlib.Core.List.{List, _∷_}
 use lib.Dec.{ltb, eqb}
 use lib.ListN.{length, getD, drop}
@@ -11,16 +11,16 @@ use borrow.Author.Tests.{lt-ltb, le-ltb, ne-eqb}
 use Rattle.meaning.specs.Ways.{Prev, head, after, Assigned, Way, assign, delete, insert, intoMap, intoList, deletes, makes, steps}
 use Rattle.meaning.specs.Valid.{ValidKey, ValidWay}
 use Rattle.meaning.specs.Sheet.{Spot, inMap, inList, Row}
-use Rattle.rows.specs.Blocks.{keyBelow, isKey, isId, runBlock, atKeyRows, atElementRows}
+use Rattle.rows.specs.Blocks.{runBlock, atKeyRows, atElementRows}
 use Rattle.rows.specs.Within.{underRows, GoesOn, ofList}
-use Rattle.readers.specs.Words.{pack, keyWords}
+use Rattle.readers.specs.Words.{pack}
 use Rattle.message.specs.Means.{prevWords, wayWords, deedOf, deedWords}
 use Rattle.message.specs.declared.Deed.{Deed}
-use Rattle.tables.specs.Finds.{Agrees, Tells, wantKey, wantElement, key-agrees, key-tells, element-agrees, element-tells}
+use Rattle.tables.specs.Finds.{Agrees, Tells}
+use Rattle.tables.specs.Wants.{wantOf, passOf, meantOf, want-key, spot-agrees, spot-tells}
 use Rattle.tables.specs.declared.Counts.{Counts}
-use Rattle.tables.specs.declared.Want.{Want}
 use Rattle.apply.specs.Reach.{changing}
-use Rattle.apply.specs.Doing.{isDelete, isInsert, mayMake, insertsHere, wantOf, Making}
+use Rattle.apply.specs.Doing.{isDelete, isInsert, mayMake, insertsHere, Making}
 
 -- A way's words: three for each key.
 
@@ -133,14 +133,6 @@ pub record Goes (i : ℕ) (d : List ℕ) (n hi lo len left : ℕ) (deed : Deed) 
   pub value-same : deedWords w ≡ deedWords next
   pub one-more : steps w ≡ suc (steps next)
 
-want-key : (n hi lo len : ℕ) → len ≤ 16 → wantOf n hi lo len ≡ record { kind = 0; depth = n; hi = hi; lo = lo; len = len }
-unfolding wantOf
-want-key n hi lo len h = rw (le-ltb 16 len h)
-
-want-element : (n e : ℕ) → wantOf n e 0 17 ≡ wantElement n e
-unfolding wantOf
-want-element n e = refl
-
 module _ (i : ℕ) (d : List ℕ) (n : ℕ) where
   goes-key : (k : List ℕ) (w : Way) → ValidKey k → ValidWay w
       → Goes i d n (pack 8 k) (pack 8 (drop 8 k)) (length k) (length (wayWords w)) (deedOf w) (intoMap k w)
@@ -149,12 +141,12 @@ module _ (i : ℕ) (d : List ℕ) (n : ℕ) where
       let q = want-key n (pack 8 k) (pack 8 (drop 8 k)) (length k) (vk .short) in
       record {
         next = w;
-        pass = keyBelow k;
-        meant = isKey k;
+        pass = passOf (inMap k);
+        meant = meantOf (inMap k);
         spot = inMap k;
-        agrees = subst (λ x. Agrees x (keyBelow k)) (sym q) (key-agrees n k vk);
-        tells = subst (λ x. Tells x (isKey k)) (sym q) (key-tells n k vk);
-        making = λ c r nd m. subst (λ x. Making x (inMap k) c) (sym q)
+        agrees = spot-agrees n _ _ _ (inMap k) refl vk;
+        tells = spot-tells n _ _ _ (inMap k) refl vk;
+        making = λ c r nd m. subst (λ x. Making x (inMap k) c) q
             (record { words = refl; good = vk; under = refl; deep = nd; room = r });
         change = λ B. rw (make-key w (length k) (vk .short));
         words = refl;
@@ -168,11 +160,11 @@ module _ (i : ℕ) (d : List ℕ) (n : ℕ) where
   unfolding underRows atElementRows wayWords deedOf deedWords steps mayMake
   goes-element e w vw = record {
     next = w;
-    pass = λ p. not (isId e p);
-    meant = isId e;
+    pass = passOf (inList e);
+    meant = meantOf (inList e);
     spot = inList e;
-    agrees = subst (λ x. Agrees x (λ p. not (isId e p))) (sym (want-element n e)) (element-agrees n e);
-    tells = subst (λ x. Tells x (isId e)) (sym (want-element n e)) (element-tells n e);
+    agrees = spot-agrees n e 0 17 (inList e) refl tt;
+    tells = spot-tells n e 0 17 (inList e) refl tt;
     making = λ c r nd m. absurd (true≢false (sym m));
     change = λ B. refl;
     words = refl;

@@ -8,12 +8,15 @@ use steps::Gapped;
 use tables::Counts;
 use tables::Stop;
 use tables::Want;
+use tables::past;
+use tables::want_of;
 ghost use Prim.Native.Nat.{_+_};
 ghost use mathlib.Core.Path.{_≡_};
 ghost use mathlib.Core.List.{[], _∷_};
+ghost use Rattle.tables.specs.Wants.{wantOf};
 ghost use Rattle.tables.specs.Holding.{four};
-ghost use Rattle.apply.specs.Doing.{isDelete, isInsert, givenIn, branchOf, stringKind, kindOf, partsOf, mayMake, insertsHere, wantOf};
-ghost use Rattle.apply.specs.Doing.{Passes, Leads, Seats, Gives, Finishes, Enters, Inserts, Descends};
+ghost use Rattle.apply.specs.Doing.{isDelete, isInsert, givenIn, branchOf, stringKind, kindOf, partsOf, mayMake, insertsHere};
+ghost use Rattle.apply.specs.Doing.{Leads, Seats, Gives, Finishes, Enters, Inserts, Descends};
 
 // What is done, and by which operation.
 pub struct Act {
@@ -141,53 +144,6 @@ fn may_make(len: u64, left: usize, deed: Deed) -> bool
         return true;
     }
     !is_delete(deed)
-}
-
-// The search for a key of the way among rows of depth n.
-fn want_of(n: u64, hi: u64, lo: u64, len: u64) -> Want
-    ensures { λ r. ⌜ r ≡ wantOf n hi lo len ⌝ }
-{
-    if len > 16 {
-        return Want {
-            kind: 1,
-            depth: n,
-            hi,
-            lo,
-            len,
-        };
-    }
-    Want {
-        kind: 0,
-        depth: n,
-        hi,
-        lo,
-        len,
-    }
-}
-
-// The place behind a row.
-fn past(heads: &[u64], s: Stop) -> Stop
-    ensures { λ r. ⌜ Passes (now (heads .entry)) s r ⌝ }
-{
-    let row = s.row;
-    if row >= heads.len() {
-        return s;
-    }
-    if s.row > 1024 {
-        return s;
-    }
-    if s.mark > 2048 {
-        return s;
-    }
-    if s.value > 2048 {
-        return s;
-    }
-    let h = heads[row];
-    Stop {
-        row: row + 1,
-        mark: s.mark + (h / 128 % 2048) as usize,
-        value: s.value + (h / 262144 % 512) as usize,
-    }
 }
 
 // The row that is looked for, made if it isn't there and may be.

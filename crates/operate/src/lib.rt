@@ -276,7 +276,8 @@ pub fn carry_out(
     carry_way(heads, keys, marks, values, c, o, &words, way.n)
 }
 
-fn is_taken(answer: Judged) -> bool
+// Whether an operation is taken.
+pub fn is_taken(answer: Judged) -> bool
     ensures { λ r. ⌜ r ≡ isTaken answer ⌝ }
 {
     match answer {

@@ -17,7 +17,7 @@ use Rattle.lines.specs.Rows.{valueOf}
 use Rattle.lines.specs.Spots.{spotOf}
 use Rattle.lines.specs.declared.Spot.{Spot}
 use Rattle.tables.specs.Words.{marksAt, valuesAt, Tables}
-use Rattle.tables.specs.Seek.{further}
+use Rattle.tables.specs.Seek.{further, Few}
 use Rattle.tables.specs.Standing.{first}
 use Rattle.tables.specs.declared.Stop.{Stop}
 use Rattle.sheet.specs.Texts.{kindIn, spotIn, placeText, valueAt, marksText, valuesText, headAt, rowText, rowsText, sheetText, Near}
@@ -64,6 +64,9 @@ going-first rows = record { row = omega arith; mark = omega arith; value = omega
 module _ (rows : ℕ) (s : Stop) (left : ℕ) (h : 0 < left) (g : Going rows s left) where
   pub near : rows ≤ 264 → Near s
   near f = record { row = omega (arith, g .row); mark = g .mark; value = g .value }
+
+  pub few : rows ≤ 264 → Few s
+  few f = record { row = omega (arith, g .row); mark = omega (arith, g .row, g .mark); value = omega (arith, g .row, g .value) }
 
   pub going-on : (w : ℕ) → Going rows (further s w) (left - 1)
   going-on w = record { row = omega (arith, g .row); mark = omega (arith, g .mark); value = omega (arith, g .value) }

@@ -16,28 +16,22 @@ use meaning::Counters;
 use meaning::Saved;
 use tables::Counts;
 use tables::Stop;
+use tables::past;
+use tables::word;
 use writers::Kind;
 use writers::put_text;
 ghost use mathlib.Core.Path.{_≡_};
 ghost use Prim.Native.Nat.{_+_, _*_, _≤_, _<_};
-ghost use lib.ListN.{length, getD};
+ghost use lib.ListN.{length};
 ghost use Rattle.decimal.specs.Powers.{powers};
 ghost use Rattle.decimal.specs.Take.{Wrote};
 ghost use Rattle.writers.specs.Held.{InBounds};
 ghost use Rattle.writers.specs.Sized.{Sized};
 ghost use Rattle.lines.specs.Spots.{ShortKey};
-ghost use Rattle.tables.specs.Seek.{further};
 ghost use Rattle.tables.specs.Standing.{first};
 ghost use Rattle.tables.specs.Holding.{four};
 ghost use Rattle.sheet.specs.Texts.{kindIn, spotIn, placeText, valueText, marksText, valuesText, rowText, rowsText, sheetText, Near};
 ghost use Rattle.sheet.specs.Saving.{Saving};
-
-// What a table has at a place, and 0 behind its end.
-fn word(t: &[u64], i: usize) -> u64
-    ensures { λ r. ⌜ r ≡ getD (now (t .entry)) i 0 ⌝ }
-{
-    if i < t.len() { t[i] } else { 0 }
-}
 
 // The kind of a value by its word, and by the number that it is.
 fn kind_of(kind: u64, n: u64) -> Kind
@@ -257,19 +251,6 @@ fn put_row(
         )
 }
 
-// One row further.
-fn next_row(heads: &[u64], s: Stop) -> Stop
-    requires { ⌜ Near s ⌝ }
-    ensures { λ r. ⌜ r ≡ further s (getD (now (heads .entry)) (s .row) 0) ⌝ }
-{
-    let h = word(heads, s.row);
-    Stop {
-        row: s.row + 1,
-        mark: s.mark + (h / 128 % 2048) as usize,
-        value: s.value + (h / 262144 % 512) as usize,
-    }
-}
-
 // The lines of all rows.
 
 fn rows_size(
@@ -293,7 +274,7 @@ fn rows_size(
     let mut left = rows;
     while 0 < left {
         sum += row_size(heads, keys, marks, values, s, t);
-        s = next_row(heads, s);
+        s = past(heads, s);
         left -= 1;
     }
     sum
@@ -322,7 +303,7 @@ fn put_rows(
     let mut left = rows;
     while 0 < left {
         at += put_row(&mut buf[at..], heads, keys, marks, values, s, t);
-        s = next_row(heads, s);
+        s = past(heads, s);
         left -= 1;
     }
     at

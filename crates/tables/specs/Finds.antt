@@ -57,9 +57,12 @@ module _ (r : Row) (h : Narrow r) where
   pub values-in : valuesAt (headWord r) ≡ length (r .values)
   values-in = omega (arith, h .depth, h .marks, h .values, side-small (r .spot), bit-small (r .map), bit-small (r .list))
 
--- one row on, and the place behind some rows that begin at s
+-- one row on, as its head says, and the place behind some rows that begin at s
 abbrev pub past : Stop → Row → Stop
 past s r = record { row = s .row + 1; mark = s .mark + length (r .marks); value = s .value + length (r .values) }
+
+pub further-same : (r : Row) → Narrow r → (s : Stop) → further s (headWord r) ≡ past s r
+further-same r h s = rw (marks-in r h, values-in r h)
 
 unfoldable pub after : Stop → List Row → Stop
 after s [] = s
@@ -90,9 +93,6 @@ module _ (w : Want) (pass : Spot → Bool) (agrees : Agrees w pass) where
   over-same r h ks qs =
       rw (depth-in r h, side-in r h, three-here (r .spot) ks qs, agrees (r .spot) (h .spot))
       (both (ltb (w .depth) (r .depth)) (eqb (r .depth) (w .depth)) (pass (r .spot)))
-
-  further-same : (r : Row) → Narrow r → (s : Stop) → further s (headWord r) ≡ past s r
-  further-same r h s = rw (marks-in r h, values-in r h)
 
   pub finds : (rs : List Row) → AllNarrow rs → (qs : List ℕ) (s : Stop)
       → seekWords w (headsOf rs) (keysOf rs ++ qs) s ≡ after s (passed (over (w .depth) pass) rs)

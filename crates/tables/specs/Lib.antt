@@ -1,6 +1,7 @@
 pub mod Words
 pub mod Seek
 pub mod Finds
+pub mod Wants
 pub mod Standing
 pub mod Holding
 pub mod Parts

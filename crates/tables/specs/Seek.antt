@@ -1,6 +1,7 @@
 -- Searching the rows on their words: which rows are gone over, where the search stops, and whether what was looked for stands there.
 -- Assumes nothing: these are definitions.
 use Prim.Native.Nat.{ℕ, _+_, _*_, _≤_}
+use mathlib.Core.Path.{_≡_}
 use mathlib.Core.Bool.{Bool, true, false, cond, not}
 use mathlib.Core.List.{List, [], _∷_}
 use lib.Dec.{ltb, eqb}
@@ -56,6 +57,16 @@ isWanted w h k =
 -- one row further
 abbrev pub further : Stop → ℕ → Stop
 further s h = record { row = s .row + 1; mark = s .mark + marksAt h; value = s .value + valuesAt h }
+
+-- at most 1024 rows are before it, by the greatest counts that their heads can give them
+pub record Few (s : Stop) : Type 0 where
+  pub row : s .row ≤ 1024
+  pub mark : s .mark ≤ 2097152
+  pub value : s .value ≤ 524288
+
+-- r is the place behind the row at s
+abbrev pub Passes : List ℕ → Stop → Stop → Type 0
+Passes heads s r = Few s → r ≡ further s (getD heads (s .row) 0)
 
 -- where the search through these heads and keys stops, which begin at s
 unfoldable pub seekWords : Want → List ℕ → List ℕ → Stop → Stop

@@ -1,5 +1,5 @@
--- What `find` and `known` promise of tables that hold rows: a search from a row on stops behind the rows that it passes over, and the
--- row that stands there is told by its words.
+-- What `find`, `known` and `past` promise of tables that hold rows: a search from a row on stops behind the rows that it passes over, the
+-- row that stands there is told by its words, and the place behind it by its head.
 -- Assumes nothing.
 use Prim.Native.Nat.{ℕ, _+_, _*_, _≤_, _<_}
 use native.Mathlib.Omega.{arith}
@@ -11,13 +11,12 @@ use lib.Seq.{getD-drop, getD-at}
 use Rattle.meaning.specs.Load.{marksIn, valuesIn}
 use Rattle.meaning.specs.Sheet.{Spot, Row}
 use Rattle.rows.specs.Blocks.{passed, over, at}
-use Rattle.theorems.specs.Accepting.{marks-append, values-append}
-use Rattle.tables.specs.Words.{headWord, spotWords, headsOf, keysOf, pad, Tables}
-use Rattle.tables.specs.Seek.{Three, three, threeAt, isWanted, Searches, sought}
-use Rattle.tables.specs.Finds.{Narrow, AllNarrow, Agrees, Tells, three-here}
-use Rattle.tables.specs.Standing.{behind, heads-append, heads-length, keys-from, found}
-use Rattle.tables.specs.Holding.{headsRoom, keysRoom, Holds, four, begins}
-use Rattle.tables.specs.Parts.{At, at-behind, holds-narrow, heads-long, keys-long, heads-parts, all-narrow-left, all-narrow-right}
+use Rattle.tables.specs.Words.{headWord, spotWords, headsOf, keysOf}
+use Rattle.tables.specs.Seek.{three, threeAt, isWanted, Searches, further, Passes, sought}
+use Rattle.tables.specs.Finds.{AllNarrow, past, further-same, after, Agrees, Tells, three-here}
+use Rattle.tables.specs.Standing.{first, behind, after-more, heads-length, keys-from, found}
+use Rattle.tables.specs.Holding.{Holds, four, begins}
+use Rattle.tables.specs.Parts.{at-behind, holds-narrow, heads-long, keys-long, heads-parts, all-narrow-left, all-narrow-right}
 use Rattle.tables.specs.declared.Counts.{Counts}
 use Rattle.tables.specs.declared.Stop.{Stop}
 use Rattle.tables.specs.declared.Want.{Want}
@@ -94,6 +93,20 @@ module _ (h k m v : List ℕ) (c : Counts) (A R : List Row) (r : Row) (H : Holds
   wanted-at w meant t =
       ap₂ (isWanted w) head-at key-at
       ∙ t r (all-narrow-right A (r ∷ R) (holds-narrow (four h k m v) c (A ++ r ∷ R) H) .0)
+
+  -- the place behind it
+  pub row-past : (s : Stop) → s ≡ behind A → further s (getD h (s .row) 0) ≡ behind (A ++ r ∷ [])
+  unfolding AllNarrow after
+  row-past s b =
+      let N = all-narrow-right A (r ∷ R) (holds-narrow (four h k m v) c (A ++ r ∷ R) H) .0 in
+      ap (λ i. further s (getD h i 0)) (at-behind s A b .row)
+      ∙ (ap (further s) head-at ∙ (further-same r N s ∙ (ap (λ s. past s r) b ∙ sym (after-more first A (r ∷ [])))))
+
+  pub passes : (s p : Stop) → Passes h s p → s ≡ behind A → p ≡ behind (A ++ r ∷ [])
+  passes s p P b =
+      let S = may-search h k m v c A (r ∷ R) H (c .rows) s refl b in
+      let few : s .row ≤ 1024 = omega (arith, S .begins, S .few) in
+      P (record { row = few; mark = omega (arith, few, S .marks); value = omega (arith, few, S .values) }) ∙ row-past s b
 
 -- what `known` comes to: where it looks at no row there is none, and else at the row that stands there
 module _ (h k : List ℕ) (rows here : ℕ) (w : Want) where

@@ -3,8 +3,9 @@
 // three words a row; `marks` the ids that mark the rows, row after row; `values` six words a value, row after row.
 ghost use mathlib.Core.Path.{_≡_};
 ghost use Prim.Native.Nat.{_+_, _*_, _-_, _≤_, _<_};
-ghost use lib.ListN.{length};
-ghost use Rattle.tables.specs.Seek.{turn, turnNumber, passesOne, goesOver, isWanted, Searches, holdsIf, sought};
+ghost use lib.ListN.{length, getD};
+ghost use Rattle.tables.specs.Seek.{turn, turnNumber, passesOne, goesOver, isWanted, Passes, Searches, holdsIf, sought};
+ghost use Rattle.tables.specs.Wants.{wantOf};
 ghost use Rattle.tables.specs.Stands.{FindsIn, Knows};
 
 // A place in the tables: a row, and how many marks and values the rows before it have.
@@ -29,6 +30,56 @@ pub struct Want {
     pub hi: u64,
     pub lo: u64,
     pub len: u64,
+}
+
+// What a table has at a place, and 0 behind its end.
+pub fn word(t: &[u64], i: usize) -> u64
+    ensures { λ r. ⌜ r ≡ getD (now (t .entry)) i 0 ⌝ }
+{
+    if i < t.len() { t[i] } else { 0 }
+}
+
+// The place behind a row, by the row's head. Where no row of a table can stand, that place itself.
+pub fn past(heads: &[u64], s: Stop) -> Stop
+    ensures { λ r. ⌜ Passes (now (heads .entry)) s r ⌝ }
+{
+    if s.row > 1024 {
+        return s;
+    }
+    if s.mark > 2097152 {
+        return s;
+    }
+    if s.value > 524288 {
+        return s;
+    }
+    let h = word(heads, s.row);
+    Stop {
+        row: s.row + 1,
+        mark: s.mark + (h / 128 % 2048) as usize,
+        value: s.value + (h / 262144 % 512) as usize,
+    }
+}
+
+// The search for a key or an element among the rows of depth n, by its three words: in an element's third stands 17.
+pub fn want_of(n: u64, hi: u64, lo: u64, len: u64) -> Want
+    ensures { λ r. ⌜ r ≡ wantOf n hi lo len ⌝ }
+{
+    if len > 16 {
+        return Want {
+            kind: 1,
+            depth: n,
+            hi,
+            lo,
+            len,
+        };
+    }
+    Want {
+        kind: 0,
+        depth: n,
+        hi,
+        lo,
+        len,
+    }
 }
 
 // The key that is looked for, beside a row's: before it (0), the same (1), or beyond it (2).

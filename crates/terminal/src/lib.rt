@@ -4,10 +4,10 @@ use meaning::Counters;
 use meaning::Receipt;
 use message::Operation;
 use operate::Judged;
+use operate::is_taken;
 use tables::Counts;
 ghost use mathlib.Core.Path.{_≡_};
 ghost use Rattle.tables.specs.Holding.{four};
-ghost use Rattle.operate.specs.Judging.{isTaken};
 ghost use Rattle.terminal.specs.Verdicts.{deadly, isEarly, refusalOf};
 ghost use Rattle.terminal.specs.Settling.{Looks, Sweeps, Rounds, Settles};
 ghost use Rattle.terminal.specs.Promises.{Empties, Awaits, Receiving};
@@ -74,21 +74,6 @@ fn is_dead(j: Judged) -> bool
         Judged::Taken => false,
         Judged::Early => false,
         Judged::Counter => false,
-        Judged::NoRoom => false,
-    }
-}
-
-fn is_taken(j: Judged) -> bool
-    ensures { λ r. ⌜ r ≡ isTaken j ⌝ }
-{
-    match j {
-        Judged::Taken => true,
-        Judged::Early => false,
-        Judged::Counter => false,
-        Judged::Repeat => false,
-        Judged::OwnDeps => false,
-        Judged::NoElement => false,
-        Judged::NotSmaller => false,
         Judged::NoRoom => false,
     }
 }

@@ -8,23 +8,17 @@ use lib.ListN.{length, getD}
 use Rattle.meaning.specs.Sheet.{Row}
 use Rattle.rows.specs.Blocks.{passed, deeper}
 use Rattle.tables.specs.Words.{depthIn}
-use Rattle.tables.specs.Seek.{further}
+use Rattle.tables.specs.Seek.{Passes}
 use Rattle.tables.specs.Standing.{behind}
 use Rattle.tables.specs.Holding.{Holds, four}
 use Rattle.tables.specs.Parts.{at-behind}
+use Rattle.tables.specs.Stands.{passes}
 use Rattle.tables.specs.declared.Counts.{Counts}
 use Rattle.tables.specs.declared.Stop.{Stop}
 use Rattle.weigh.specs.declared.Lost.{Lost}
-use Rattle.weigh.specs.Goes.{Goes, RowGone, UnderGone, BlockGone, RowPast, RowDeep}
-use Rattle.weigh.proofs.Here.{Here, here, here-past}
+use Rattle.weigh.specs.Goes.{Goes, RowGone, UnderGone, BlockGone, RowDeep}
+use Rattle.weigh.proofs.Here.{here}
 use Rattle.weigh.proofs.Goes.{more-marks, more-values}
-
-pub past-none : (heads : List ℕ) (s t : Stop)
-    → ((keys marks values : List ℕ) (c : Counts) (r : Row) → Here (four heads keys marks values) c s r → ⊥) → RowPast heads s t
-past-none heads s t never keys marks values c A r R h e = absurd (never keys marks values c r (here _ c s A r R h e))
-
-pub past-is : (heads : List ℕ) (s : Stop) → RowPast heads s (further s (getD heads (s .row) 0))
-past-is heads s keys marks values c A r R h e = here-past _ c s A r R h e
 
 pub deep-none : (heads : List ℕ) (row n : ℕ) → length heads ≤ row → RowDeep heads row n
 deep-none heads row n l keys marks values c A r R h e =
@@ -35,7 +29,7 @@ deep-is heads row keys marks values c A r R h e =
     ap (λ n. depthIn (getD heads n 0)) (e ∙ sym (at-behind (behind A) A refl .row)) ∙ here _ c (behind A) A r R h refl .depth
 
 pub block-gone : (heads marks values : List ℕ) (rows : ℕ) (s next : Stop) (n : ℕ) (d : List ℕ) (g u : Lost)
-    → RowGone heads marks values s d g → RowPast heads s next → RowDeep heads (s .row) n → UnderGone heads marks values rows next n d u
+    → RowGone heads marks values s d g → Passes heads s next → RowDeep heads (s .row) n → UnderGone heads marks values rows next n d u
     → BlockGone heads marks values rows s d (record { marks = g .marks + u .marks; values = g .values + u .values })
 block-gone heads marks values rows s next n d g u W P D U = record {
   few-marks = omega (arith, W .few-marks, U .few-marks);
@@ -50,7 +44,8 @@ block-gone heads marks values rows s next n d g u W P D U = record {
         let a = W .is keys c A r R h e in
         let k : n ≡ r .depth = D keys marks values c A r R h (at-behind s A e .row) in
         let t = subst (Holds (four heads keys marks values) c) (sym (append-assoc A (r ∷ []) R)) h in
-        let b = subst (λ n. Goes d (passed (deeper n) R) u) k (U .is keys c (A ++ r ∷ []) R q t (P keys marks values c A r R h e)) in
+        let p : next ≡ behind (A ++ r ∷ []) = passes heads keys marks values c A R r h s next P e in
+        let b = subst (λ n. Goes d (passed (deeper n) R) u) k (U .is keys c (A ++ r ∷ []) R q t p) in
         let L = passed (deeper (r .depth)) R in
         record {
           marks = omega (arith, a .marks, b .marks, more-marks d r L);

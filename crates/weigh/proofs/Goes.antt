@@ -22,11 +22,12 @@ use Rattle.tables.specs.Standing.{behind}
 use Rattle.tables.specs.Holding.{Holds, four}
 use Rattle.tables.specs.Parts.{at-behind}
 use Rattle.tables.specs.Values.{strides-value, each-flat}
+use Rattle.tables.specs.Stands.{row-past}
 use Rattle.tables.specs.declared.Counts.{Counts}
 use Rattle.tables.specs.declared.Stop.{Stop}
 use Rattle.weigh.specs.declared.Lost.{Lost}
 use Rattle.weigh.specs.Goes.{Goes, RowGone, UnderGone}
-use Rattle.weigh.proofs.Here.{Here, here, here-past, Between, between}
+use Rattle.weigh.proofs.Here.{Here, here, Between, between}
 
 abbrev pub nothing : Lost
 nothing = record { marks = 0; values = 0 }
@@ -223,7 +224,7 @@ module _ (heads marks values : List ℕ) (rows : ℕ) (from : Stop) (n : ℕ) (d
               front = front ++ r ∷ [];
               back = back;
               all = a ∙ sym (append-assoc front (r ∷ []) back);
-              here = here-past _ c at front r back h e;
+              here = row-past heads keys marks values c front back r h at e;
               marks = omega (arith, x, ap (goneMarks d) z, more-marks d r P, j .marks);
               values = omega (arith, y, ap (goneValues d) z, more-values d r P, j .values);
             }

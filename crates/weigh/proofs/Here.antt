@@ -3,7 +3,7 @@
 use Prim.Native.Nat.{ℕ, _+_, _*_, _-_, _≤_, _<_}
 use native.Mathlib.Omega.{arith}
 use mathlib.Core.Path.{_≡_, sym, ap, _∙_}
-use mathlib.Core.List.{List, [], _∷_, _++_}
+use mathlib.Core.List.{List, _∷_, _++_}
 use lib.ListN.{length, take, drop, getD, replicate, length-append}
 use lib.Seq.{getD-at, drop-at, take-append-seam}
 use Rattle.meaning.specs.Load.{marksIn, valuesIn}
@@ -11,9 +11,8 @@ use Rattle.meaning.specs.Sheet.{Row}
 use Rattle.theorems.specs.Accepting.{marks-append, values-append}
 use Rattle.words.specs.Words.{run}
 use Rattle.tables.specs.Words.{headWord, eachValue, headsOf, marksOf, valuesOf, depthIn, marksAt, valuesAt, Tables}
-use Rattle.tables.specs.Seek.{further}
-use Rattle.tables.specs.Finds.{Narrow, AllNarrow, past, after, depth-in, marks-in, values-in}
-use Rattle.tables.specs.Standing.{first, behind, after-more, heads-length}
+use Rattle.tables.specs.Finds.{Narrow, AllNarrow, depth-in, marks-in, values-in}
+use Rattle.tables.specs.Standing.{behind, heads-length}
 use Rattle.tables.specs.Holding.{valuesRoom, Holds}
 use Rattle.tables.specs.Parts as P
 use Rattle.tables.specs.declared.Counts.{Counts}
@@ -97,10 +96,3 @@ module _ (T : Tables) (c : Counts) (s : Stop) (a : List Row) (r : Row) (b : List
             ap (drop (s .value * 6)) (h .values ∙ P.values-parts a r b _)
             ∙ drop-at (valuesOf a) _ (s .value * 6) (P.values-length a ∙ ap (λ n. n * 6) (sym (at .value)));
       }
-
-  -- one row on
-  pub here-past : further s (getD (T .heads) (s .row) 0) ≡ behind (a ++ r ∷ [])
-  unfolding after
-  here-past =
-      let f : further s (getD (T .heads) (s .row) 0) ≡ past s r = rw (here .marks, here .values) in
-      f ∙ (ap (λ s. past s r) e ∙ sym (after-more first a (r ∷ [])))

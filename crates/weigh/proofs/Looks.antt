@@ -3,20 +3,18 @@
 use Prim.Native.Nat.{ℕ}
 use native.Mathlib.Omega.{arith}
 use mathlib.Core.Path.{_≡_, refl, sym, ap, _∙_, subst}
-use mathlib.Core.Bool.{Bool, true, false, cond, not}
+use mathlib.Core.Bool.{Bool, true, false, cond}
 use mathlib.Core.List.{List, [], _∷_, _++_}
-use borrow.Author.Tests.{ne-eqb, eqb-true}
+use borrow.Author.Tests.{eqb-true}
 use lib.Dec.{eqb}
-use lib.ListN.{length}
-use Rattle.meaning.specs.Valid.{ValidKey}
-use Rattle.meaning.specs.Sheet.{Spot, inMap, inList, Row}
+use Rattle.meaning.specs.Sheet.{Spot, Row}
 use Rattle.theorems.specs.Decide.{and-left}
-use Rattle.rows.specs.Blocks.{join, passed, rest, deeper, over, at, keyBelow, isKey, isId}
+use Rattle.rows.specs.Blocks.{join, passed, rest, deeper, over, at}
 use Rattle.rows.specs.Locate.{nowhere, here, locateHere, locate}
 use Rattle.rows.specs.Counting.{goneMarks, goneValues, newBlock}
 use Rattle.rows.specs.Balanced.{passed-rest-behind}
-use Rattle.tables.specs.Finds.{GoodSpot, Agrees, Tells, wantKey, wantElement, key-agrees, element-agrees, key-tells, element-tells}
-use Rattle.tables.specs.Words.{spotWords}
+use Rattle.tables.specs.Finds.{Agrees, Tells}
+use Rattle.tables.specs.Wants.{wantOf}
 use Rattle.tables.specs.Standing.{behind}
 use Rattle.tables.specs.Holding.{Holds, four, begins}
 use Rattle.tables.specs.Parts.{at-behind}
@@ -26,7 +24,7 @@ use Rattle.tables.specs.declared.Want.{Want}
 use Rattle.weigh.specs.declared.Lost.{Lost}
 use Rattle.weigh.specs.declared.Sight.{Sight}
 use Rattle.weigh.specs.Goes.{Goes, RowGone, BlockGone}
-use Rattle.weigh.specs.Weighs.{wantOf, Sees, missing, standing, Looks, SightGone}
+use Rattle.weigh.specs.Weighs.{Sees, missing, standing, Looks, SightGone}
 
 pub false-true : (b : Bool) → b ≡ false → b ≡ true → ⊥
 false-true b f t = let z : _≡_ {A = ℕ} 0 1 = ap (λ b. cond b 1 0) (sym f ∙ t) in omega arith
@@ -70,44 +68,6 @@ looks-found h k rows from n hangs hi lo len w s b x e find know m v c A B pass m
     know m v c F (rest o B) meant K q (at-behind s F g .row) t′ ∙ ap (λ n. begins n meant (rest o B)) d in
     subst (λ b′. Sees (A ++ B) n (record { at = s; there = b }) (locate n pass meant (cond b′ B []))) (sym x)
     (sees-first (A ++ B) n meant (record { at = s; there = b }) F (rest o B) z g y)
-
--- Keys and element ids as spots.
-
-abbrev pub passOf : Spot → Spot → Bool
-passOf (inMap k) = keyBelow k
-passOf (inList e) = λ p. not (isId e p)
-
-abbrev pub meantOf : Spot → Spot → Bool
-meantOf (inMap k) = isKey k
-meantOf (inList e) = isId e
-
-key-want : (n : ℕ) (k : List ℕ) (hi lo len : ℕ) → hi ∷ lo ∷ len ∷ [] ≡ spotWords (inMap k) → ValidKey k
-    → wantKey n k ≡ wantOf n hi lo len
-unfolding wantOf
-key-want n k hi lo len e v =
-    let x : hi ≡ Rattle.readers.specs.Words.pack 8 k = cc in
-    let y : lo ≡ Rattle.readers.specs.Words.pack 8 (lib.ListN.drop 8 k) = cc in
-    let z : len ≡ length k = cc in
-    rw (ne-eqb len 17 (λ q. omega (arith, v .short)), x, y, z)
-
-element-want : (n e : ℕ) (hi lo len : ℕ) → hi ∷ lo ∷ len ∷ [] ≡ spotWords (inList e) → wantElement n e ≡ wantOf n hi lo len
-unfolding wantOf
-element-want n e hi lo len q =
-    let x : hi ≡ e = cc in
-    let y : lo ≡ 0 = cc in
-    let z : len ≡ 17 = cc in
-    rw (x, y, z)
-
-pub spot-agrees : (n : ℕ) (p : Spot) (hi lo len : ℕ) → hi ∷ lo ∷ len ∷ [] ≡ spotWords p → GoodSpot p
-    → Agrees (wantOf n hi lo len) (passOf p)
-spot-agrees n (inMap k) hi lo len e g = subst (λ w. Agrees w (keyBelow k)) (key-want n k hi lo len e g) (key-agrees n k g)
-spot-agrees n (inList i) hi lo len e g =
-    subst (λ w. Agrees w (λ p. not (isId i p))) (element-want n i hi lo len e) (element-agrees n i)
-
-pub spot-tells : (n : ℕ) (p : Spot) (hi lo len : ℕ) → hi ∷ lo ∷ len ∷ [] ≡ spotWords p → GoodSpot p
-    → Tells (wantOf n hi lo len) (meantOf p)
-spot-tells n (inMap k) hi lo len e g = subst (λ w. Tells w (isKey k)) (key-want n k hi lo len e g) (key-tells n k g)
-spot-tells n (inList i) hi lo len e g = subst (λ w. Tells w (isId i)) (element-want n i hi lo len e) (element-tells n i)
 
 -- What goes there.
 

@@ -20,15 +20,17 @@ use Rattle.rows.specs.Within.{underChange, GoesOn, shallow-rest, change-within,
 use Rattle.message.specs.Means.{wayWords, prevWords}
 use Rattle.tables.specs.Words.{spotWords}
 use Rattle.tables.specs.Finds.{GoodSpot}
+use Rattle.tables.specs.Wants.{passOf, meantOf, spot-agrees, spot-tells}
 use Rattle.tables.specs.Standing.{behind}
 use Rattle.tables.specs.Holding.{Holds, four}
+use Rattle.tables.specs.Seek.{Passes}
+use Rattle.tables.specs.Stands.{passes}
 use Rattle.tables.specs.declared.Counts.{Counts}
 use Rattle.tables.specs.declared.Stop.{Stop}
 use Rattle.weigh.specs.declared.Sight.{Sight}
 use Rattle.weigh.specs.declared.Weight.{Weight}
-use Rattle.weigh.specs.Goes.{RowPast}
 use Rattle.weigh.specs.Weighs.{Sees, missing, standing, Looks, orNew, wayNumber, Weighs, nothingWeighed, marked, carried, WayWeighed}
-use Rattle.weigh.proofs.Looks.{passOf, meantOf, spot-agrees, spot-tells, false-true}
+use Rattle.weigh.proofs.Looks.{false-true}
 use Rattle.weigh.proofs.Weights.{carried-places, carried-marks, marked-marks, marked-places, mark-is}
 use Rattle.weigh.proofs.Ways.{into, locateAt, sees-there, carry-into}
 
@@ -124,7 +126,7 @@ module _ (d : List ℕ) (n : ℕ) (w : Way) (x : Weight) where
       subst (λ t. Weighs t (underChange d (suc n) w us) x) a (subst (λ c. Weighs (ledRows d (suc n) w R) c x) b W)
 
 module _ (h k m v : List ℕ) (rows : ℕ) (n : ℕ) (d : List ℕ) (deed : ℕ) (words : List ℕ) (s : Sight) (next : Stop) (x : Weight)
-    (past : RowPast h (s .at) next) (under : WayWeighed h k m v rows next (n + 1) (s .there) d deed words x) where
+    (past : Passes h (s .at) next) (under : WayWeighed h k m v rows next (n + 1) (s .there) d deed words x) where
   below : (c : Counts) (rs : List Row) (w : Way) (l : Located) → Holds (four h k m v) c rs → rows ≡ c .rows → Sees rs n s l
       → words ≡ wayWords w → deed ≡ wayNumber w → ValidWay w → n + suc (steps w) ≤ 9
       → Weighs (ledRows d (suc n) w (underOf l)) (underChange d (suc n) w (underOf l)) x
@@ -137,7 +139,7 @@ module _ (h k m v : List ℕ) (rows : ℕ) (n : ℕ) (d : List ℕ) (deed : ℕ)
   below c rs w l H q (standing F r R t y b i j) e g ok N =
       let K = subst (Holds (four h k m v) c) y H in
       let K′ = subst (Holds (four h k m v) c) (sym (append-assoc F (r ∷ []) R)) K in
-      let a = under .is c (F ++ r ∷ []) R w K′ q (λ o. past k m v c F r R K b) e g ok (omega arith) in
+      let a = under .is c (F ++ r ∷ []) R w K′ q (λ o. passes h k m v c F R r K (s .at) next past b) e g ok (omega arith) in
       let a′ = subst (λ t. Weighs (ledRows d (n + 1) w (cond t R [])) (underChange d (n + 1) w (cond t R [])) x) t a in
       let z = subst (λ i. Weighs (ledRows d i w R) (underChange d i w R) x) (add-one n) a′ in
       subst (λ l. Weighs (ledRows d (suc n) w (underOf l)) (underChange d (suc n) w (underOf l)) x) (sym j) (within d n w x R z)
@@ -145,7 +147,7 @@ module _ (h k m v : List ℕ) (rows : ℕ) (n : ℕ) (d : List ℕ) (deed : ℕ)
 module _ (h k m v : List ℕ) (rows : ℕ) (from : Stop) (n : ℕ) (hangs : Bool) (d : List ℕ) (deed : ℕ) (way : List ℕ) (s : Sight) (next : Stop)
     (x : Weight) where
   step-weighed : 3 ≤ length way → (length way ≡ 3 → ⊥)
-      → Looks h k rows from n hangs (getD way 0 0) (getD way 1 0) (getD way 2 0) s → RowPast h (s .at) next
+      → Looks h k rows from n hangs (getD way 0 0) (getD way 1 0) (getD way 2 0) s → Passes h (s .at) next
       → WayWeighed h k m v rows next (n + 1) (s .there) d deed (drop 3 way) x
       → WayWeighed h k m v rows from n hangs d deed way
       (carried (marked x deed) (s .there) (eqb (getD way 2 0) 17) (covered d (getD way 0 0)) true)
@@ -189,7 +191,7 @@ module _ (h k m v : List ℕ) (rows : ℕ) (from : Stop) (n : ℕ) (hangs : Bool
       go c A B p w H q f e t g good ok N =
           let rs = cond hangs B [] in
           let L = locateAt n p rs in
-          let S = look m v c A B (passOf p) (meantOf p) H q f (spot-agrees n p hi lo len e good) (spot-tells n p hi lo len e good) in
+          let S = look m v c A B (passOf p) (meantOf p) H q f (spot-agrees n hi lo len p e good) (spot-tells n hi lo len p e good) in
           let on = goes-on w (λ z. more (omega (arith, long, length-drop 3 way, ap length (t ∙ z)))) in
           let W = below h k m v rows n d deed (drop 3 way) s next x past under c (A ++ B) w L H q S t g ok N in
           let W′ = subst (λ us. Weighs (ledRows d (suc n) w (underOf L)) (underChange d (suc n) w us) x) (sym (or-new n p L)) W in
@@ -210,7 +212,7 @@ module _ (h k m v : List ℕ) (rows : ℕ) (from : Stop) (n : ℕ) (hangs : Bool
 
   -- the same as the code has it: the rest of the way is a part of it, and each step has its result
   pub part-weighed : (u y : Weight) (covers : Bool) → 3 ≤ length way → (length way ≡ 3 → ⊥)
-      → Looks h k rows from n hangs (getD way 0 0) (getD way 1 0) (getD way 2 0) s → RowPast h (s .at) next
+      → Looks h k rows from n hangs (getD way 0 0) (getD way 1 0) (getD way 2 0) s → Passes h (s .at) next
       → WayWeighed h k m v rows next (n + 1) (s .there) d deed (take (length way - 3) (drop 3 way)) x
       → u ≡ marked x deed → covers ≡ covered d (getD way 0 0) → y ≡ carried u (s .there) (eqb (getD way 2 0) 17) covers true
       → WayWeighed h k m v rows from n hangs d deed way y

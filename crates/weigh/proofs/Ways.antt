@@ -19,6 +19,7 @@ use Rattle.rows.specs.Within.{underChange}
 use Rattle.message.specs.Means.{wayWords, prevWords}
 use Rattle.tables.specs.Words.{spotWords}
 use Rattle.tables.specs.Finds.{GoodSpot}
+use Rattle.tables.specs.Wants.{passOf, meantOf, spot-agrees, spot-tells}
 use Rattle.tables.specs.Standing.{behind}
 use Rattle.tables.specs.Holding.{Holds, four}
 use Rattle.tables.specs.declared.Counts.{Counts}
@@ -28,7 +29,6 @@ use Rattle.weigh.specs.declared.Weight.{Weight}
 use Rattle.weigh.specs.Weighs.{Sees, missing, standing, Looks, orNew}
 use Rattle.weigh.specs.Weighs.{isPlain, wayNumber, Weighs, nothingWeighed, elementWeighed, carried}
 use Rattle.weigh.specs.Weighs.{PlaceWeighed, WayWeighed}
-use Rattle.weigh.proofs.Looks.{passOf, meantOf, spot-agrees, spot-tells}
 use Rattle.weigh.proofs.Weights.{Ends, ends, and-false, map-carry, list-carry, carried-places, carried-marks}
 
 -- A key and what follows it.
@@ -116,7 +116,7 @@ module _ (h k m v : List ℕ) (rows : ℕ) (from : Stop) (n : ℕ) (hangs : Bool
       go c A B p w H q f e z g ok =
           let rs = cond hangs B [] in
           let L = locateAt n p rs in
-          let S = look m v c A B (passOf p) (meantOf p) H q f (spot-agrees n p hi lo len e ok) (spot-tells n p hi lo len e ok) in
+          let S = look m v c A B (passOf p) (meantOf p) H q f (spot-agrees n hi lo len p e ok) (spot-tells n hi lo len p e ok) in
           let W = place .is k c (A ++ B) n p L w H q S z g in
           carry-into d n w rs u (s .there) (not (eqb deed 0)) hi lo len p e ok (sees-there (A ++ B) n s L S)
           (ap (λ i. not (eqb i 0)) g ∙ ends-makes w (ends w z))
@@ -191,8 +191,8 @@ module _ (h k m v : List ℕ) (rows : ℕ) (from : Stop) (n : ℕ) (hangs : Bool
           (cond (isLocated (locateAt n (inList e) (cond hangs B []))) (newChange a) noChange) (elementWeighed (covered d hi) deed)
       go c A B a e H q f z g =
           let L = locateAt n (inList e) (cond hangs B []) in
-          let S = look m v c A B (passOf (inList e)) (meantOf (inList e)) H q f (spot-agrees n (inList e) hi lo len z tt)
-          (spot-tells n (inList e) hi lo len z tt) in
+          let S = look m v c A B (passOf (inList e)) (meantOf (inList e)) H q f (spot-agrees n hi lo len (inList e) z tt)
+          (spot-tells n hi lo len (inList e) z tt) in
           let y : isLocated L ≡ true = sym (sees-there (A ++ B) n s L S) ∙ t in
           let i : hi ≡ e = firstly (inList e) hi lo len z in
           subst (λ b. Weighs (covered d e && b) (cond b (newChange a) noChange) (elementWeighed (covered d hi) deed)) (sym y)
@@ -211,8 +211,8 @@ module _ (h k m v : List ℕ) (rows : ℕ) (from : Stop) (n : ℕ) (hangs : Bool
           (cond (isLocated (locateAt n (inList e) (cond hangs B []))) (newChange a) noChange) (nothingWeighed false)
       go c A B a e H q f z =
           let L = locateAt n (inList e) (cond hangs B []) in
-          let S = look m v c A B (passOf (inList e)) (meantOf (inList e)) H q f (spot-agrees n (inList e) hi lo len z tt)
-          (spot-tells n (inList e) hi lo len z tt) in
+          let S = look m v c A B (passOf (inList e)) (meantOf (inList e)) H q f (spot-agrees n hi lo len (inList e) z tt)
+          (spot-tells n hi lo len (inList e) z tt) in
           let y : isLocated L ≡ false = sym (sees-there (A ++ B) n s L S) ∙ t in
           subst (λ b. Weighs (covered d e && b) (cond b (newChange a) noChange) (nothingWeighed false)) (sym y)
           (record {

@@ -37,13 +37,7 @@ pub record BlockGone (heads marks values : List ℕ) (rows : ℕ) (s : Stop) (d 
   pub is : (keys : List ℕ) (c : Counts) (A : List Row) (r : Row) (R : List Row) → rows ≡ c .rows
       → Holds (four heads keys marks values) c (A ++ r ∷ R) → s ≡ behind A → Goes d (r ∷ passed (deeper (r .depth)) R) g
 
--- The place behind a row, and the row's depth.
-
-abbrev pub RowPast : List ℕ → Stop → Stop → Type 0
-RowPast heads s t =
-    (keys marks values : List ℕ) (c : Counts) (A : List Row) (r : Row) (R : List Row)
-    → Holds (four heads keys marks values) c (A ++ r ∷ R) → s ≡ behind A → t ≡ behind (A ++ r ∷ [])
-
+-- a row's depth
 abbrev pub RowDeep : List ℕ → ℕ → ℕ → Type 0
 RowDeep heads row n =
     (keys marks values : List ℕ) (c : Counts) (A : List Row) (r : Row) (R : List Row)

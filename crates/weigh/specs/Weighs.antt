@@ -21,21 +21,17 @@ use Rattle.message.specs.Means.{wayWords, deedOf}
 use Rattle.message.specs.declared.Deed.{Deed}
 use Rattle.message.specs.declared.Deed.the-variants as D
 use Rattle.tables.specs.Finds.{Agrees, Tells}
+use Rattle.tables.specs.Wants.{wantOf}
 use Rattle.tables.specs.Standing.{behind}
 use Rattle.tables.specs.Holding.{Holds, four}
 use Rattle.tables.specs.declared.Counts.{Counts}
 use Rattle.tables.specs.declared.Stop.{Stop}
-use Rattle.tables.specs.declared.Want.{Want}
 use Rattle.weigh.specs.declared.Lost.{Lost}
 use Rattle.weigh.specs.declared.Sight.{Sight}
 use Rattle.weigh.specs.declared.Weight.{Weight}
 use Rattle.weigh.specs.Goes.{Goes}
 
 -- Looking for a place.
-
--- the search for a key by its three words
-unfoldable pub wantOf : ℕ → ℕ → ℕ → ℕ → Want
-wantOf n hi lo len = record { kind = cond (eqb len 17) 1 0; depth = n; hi = hi; lo = lo; len = len }
 
 -- among the rows rs, what was looked for is this
 pub data Sees (rs : List Row) (n : ℕ) (s : Sight) (l : Located) : Type 0 where

@@ -6,17 +6,18 @@ use meaning::Counters;
 use message::Deed;
 use readers::Given;
 use tables::Stop;
-use tables::Want;
 use tables::find;
 use tables::known;
+use tables::past;
+use tables::want_of;
 use words::covered_marks;
 use words::covered_values;
 ghost use mathlib.Core.Path.{_≡_};
 ghost use Prim.Native.Nat.{ℕ, _<_, _≤_};
 ghost use mathlib.Core.List.{List, [], _∷_};
-ghost use Rattle.weigh.specs.Weighs.{wantOf, Looks, SightGone, PlaceWeighed, WayWeighed, Weighed};
+ghost use Rattle.weigh.specs.Weighs.{Looks, SightGone, PlaceWeighed, WayWeighed, Weighed};
 ghost use Rattle.weigh.specs.Weighs.{plainGiven, deedNumber, marked, carried, nothingWeighed, elementWeighed};
-ghost use Rattle.weigh.specs.Goes.{RowGone, UnderGone, BlockGone, RowPast, RowDeep};
+ghost use Rattle.weigh.specs.Goes.{RowGone, UnderGone, BlockGone, RowDeep};
 
 // How many marks and values go.
 pub struct Lost {
@@ -124,28 +125,6 @@ pub fn gone_under(
     sum
 }
 
-// The place behind a row.
-pub fn past_row(heads: &[u64], s: Stop) -> Stop
-    ensures { λ r. ⌜ RowPast (now (heads .entry)) s r ⌝ }
-{
-    let row = s.row;
-    if row >= heads.len() {
-        return s;
-    }
-    if s.mark > 1032 {
-        return s;
-    }
-    if s.value > 257 {
-        return s;
-    }
-    let h = heads[row];
-    Stop {
-        row: row + 1,
-        mark: s.mark + (h / 128 % 2048) as usize,
-        value: s.value + (h / 262144 % 512) as usize,
-    }
-}
-
 // How deep a row is.
 pub fn depth_at(heads: &[u64], row: usize) -> u64
     ensures { λ r. ⌜ RowDeep (now (heads .entry)) row r ⌝ }
@@ -161,7 +140,7 @@ pub fn gone(heads: &[u64], marks: &[u64], values: &[u64], rows: usize, s: Stop, 
     ensures { λ g. ⌜ BlockGone (now (heads .entry)) (now (marks .entry)) (now (values .entry)) rows s (d .at) g ⌝ }
 {
     let own = gone_row(heads, marks, values, s, d);
-    let next = past_row(heads, s);
+    let next = past(heads, s);
     let n = depth_at(heads, s.row);
     let under = gone_under(heads, marks, values, rows, next, n, d);
     Lost {
@@ -184,28 +163,6 @@ pub struct Weight {
     pub values: usize,
     pub gone_marks: usize,
     pub gone_values: usize,
-}
-
-// The search for a key by its three words: an element id has 17 in the third.
-fn want_of(n: u64, hi: u64, lo: u64, len: u64) -> Want
-    ensures { λ w. ⌜ w ≡ wantOf n hi lo len ⌝ }
-{
-    if len == 17 {
-        return Want {
-            kind: 1,
-            depth: n,
-            hi: hi,
-            lo: lo,
-            len: len,
-        };
-    }
-    Want {
-        kind: 0,
-        depth: n,
-        hi: hi,
-        lo: lo,
-        len: len,
-    }
 }
 
 // Looks for the place under a key among the rows from a place on, of depth n; nothing is there if nothing hangs there.
@@ -561,7 +518,7 @@ fn weigh_way(
         );
     }
     let s = look(heads, keys, rows, from, n, hangs, hi, lo, len);
-    let next = past_row(heads, s.at);
+    let next = past(heads, s.at);
     let under = weigh_way(
         heads,
         keys,

@@ -1,10 +1,11 @@
 -- `sheet::put_rows` meets its contract. The loop's invariant: what is written, and what is still to come.
 -- Assumes nothing.
+use borrow.Author.Needs.{needs}
 use native.Mathlib.Omega.{arith}
 use Rattle.tables.specs.Holding.{four}
 use Rattle.tables.specs.Standing.{first}
 use Rattle.tables.specs.Seek.{further}
-use Rattle.sheet.proofs.Rows.{Going, going-first, near, going-on}
+use Rattle.sheet.proofs.Rows.{Going, going-first, near, few, going-on}
 use Rattle.sheet.specs.Texts.{headAt, rowText, rowsText}
 use Rattle.writers.proofs.Over.{Writing, last-room, same-long}
 use Rattle.sheet.proofs.Runs.{begun, write-room, write-fits, write-more, write-all}
@@ -61,13 +62,8 @@ add-at c =
       same-long (at-loop .loop .inv .0),
     )
 
-next-row-requires : tie.Need-next-row-requires Inv-loop μ-loop
-next-row-requires c κs =
-    let at-loop-test = c .before .before .before .before in
-    let at-loop = at-loop-test .before in
-    let at-start = at-loop .before .before .before .before .before .before in
-    near (at-start .args .rows) (at-loop .loop .s) (at-loop .loop .left) (at-loop-test .loop-test .taken) (at-loop .loop .inv .1)
-    (at-start .pre .1)
+past-requires : tie.Need-past-requires Inv-loop μ-loop
+past-requires c κs = search needs
 
 sub-left : tie.Need-sub-left Inv-loop μ-loop
 sub-left c =
@@ -85,7 +81,8 @@ loop-again c =
     let at-loop-test = at-put-row .before .before in
     let at-loop = at-loop-test .before in
     let at-start = at-loop .before .before .before .before .before .before in
-    rw (c .next-row .ensures) (
+    rw (c .past .ensures (few (at-start .args .rows) (at-loop .loop .s) (at-loop .loop .left) (at-loop-test .loop-test .taken)
+    (at-loop .loop .inv .1) (at-start .pre .1))) (
       write-more (rowText
           (four (at-start .args .heads .now) (at-start .args .keys .now) (at-start .args .marks .now) (at-start .args .values .now)))
           (λ s. further s (headAt (four (at-start .args .heads .now) (at-start .args .keys .now) (at-start .args .marks .now)
@@ -118,7 +115,7 @@ put-rows-spec =
     part-put-row-end
     put-row-requires
     add-at
-    next-row-requires
+    past-requires
     sub-left
     loop-less
     loop-again

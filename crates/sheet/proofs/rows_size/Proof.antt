@@ -1,11 +1,12 @@
 -- `sheet::rows_size` meets its contract. The loop's invariant: what is counted, and what is still to come.
 -- Assumes nothing.
 use Prim.Native.Nat.{_*_}
+use borrow.Author.Needs.{needs}
 use native.Mathlib.Omega.{arith}
 use Rattle.tables.specs.Holding.{four}
 use Rattle.tables.specs.Standing.{first}
 use Rattle.tables.specs.Seek.{further}
-use Rattle.sheet.proofs.Rows.{Going, going-first, near, going-on}
+use Rattle.sheet.proofs.Rows.{Going, going-first, near, few, going-on}
 use Rattle.sheet.specs.Texts.{headAt, rowText, rowsText}
 use Rattle.sheet.proofs.Runs.{Summing, sum-begun, sum-more, sum-all}
 use Rattle.sheet.proofs.rows_size.Statement.{statement}
@@ -42,12 +43,8 @@ add-sum c =
     let at-pre = at-loop .before .before .before .before .before in
     omega (arith, c .row-size .ensures .most, at-loop .loop .inv .0 .most, c .before .loop-test .taken, at-pre .pre .1)
 
-next-row-requires : tie.Need-next-row-requires Inv-loop μ-loop
-next-row-requires c κs =
-    let at-loop = c .before .before in
-    let at-start = at-loop .before .before .before .before .before in
-    near (at-start .args .rows) (at-loop .loop .s) (at-loop .loop .left) (c .before .loop-test .taken) (at-loop .loop .inv .1)
-    (at-start .pre .1)
+past-requires : tie.Need-past-requires Inv-loop μ-loop
+past-requires c κs = search needs
 
 sub-left : tie.Need-sub-left Inv-loop μ-loop
 sub-left c = omega (arith, c .before .before .loop-test .taken)
@@ -60,7 +57,8 @@ loop-again c =
     let at-loop-test = c .before .before in
     let at-loop = at-loop-test .before in
     let at-start = at-loop .before .before .before .before .before in
-    rw (c .next-row .ensures) (
+    rw (c .past .ensures (few (at-start .args .rows) (at-loop .loop .s) (at-loop .loop .left) (at-loop-test .loop-test .taken)
+    (at-loop .loop .inv .1) (at-start .pre .1))) (
       sum-more (rowText
           (four (at-start .args .heads .now) (at-start .args .keys .now) (at-start .args .marks .now) (at-start .args .values .now)))
           (λ s. further s (headAt (four (at-start .args .heads .now) (at-start .args .keys .now) (at-start .args .marks .now)
@@ -87,7 +85,7 @@ rows-size-spec =
     loop-holds
     row-size-requires
     add-sum
-    next-row-requires
+    past-requires
     sub-left
     loop-less
     loop-again

@@ -12,10 +12,10 @@ use Rattle.weigh.proofs.weigh_way.Reads as weigh-way
 use Rattle.weigh.proofs.weigh_way.Kinds as weigh-way-kinds
 use Rattle.weigh.proofs.+weigh_way.Lts-weigh_way as weigh-way-lts
 use Rattle.counters.proofs.covered.Reads as covered-reads
+use Rattle.tables.proofs.past.Reads as past-reads
 use Rattle.weigh.proofs.carry.Reads as carry-reads
 use Rattle.weigh.proofs.look.Reads as look-reads
 use Rattle.weigh.proofs.mark.Reads as mark-reads
-use Rattle.weigh.proofs.past_row.Reads as past-row-reads
 use Rattle.weigh.proofs.weigh_last.Reads as weigh-last-reads
 use Rattle.weigh.proofs.weightless.Reads as weightless-reads
 use Rattle.weigh.proofs.+weigh_way.{statement}
@@ -40,8 +40,8 @@ claims t = (
   weigh-last-reads.Learnt,
   look-reads.Asked,
   look-reads.Learnt,
-  past-row-reads.Asked,
-  past-row-reads.Learnt,
+  past-reads.Asked,
+  past-reads.Learnt,
   weigh-way-below t,
   weigh-way.Post,
   mark-reads.Asked,
@@ -82,8 +82,8 @@ weigh-way-returns-3 t c = last-weighed _ _ _ _ _ _ _ _ _ _ _ (c .before .if3 .ta
 weigh-way-look-requires : (t : ℕ) → weigh-way-lts.Need-look-requires (claims t) (weigh-way-at t) weigh-way.Post
 weigh-way-look-requires t c κs = search needs
 
-weigh-way-past-row-requires : (t : ℕ) → weigh-way-lts.Need-past-row-requires (claims t) (weigh-way-at t) weigh-way.Post
-weigh-way-past-row-requires t c κs = search needs
+weigh-way-past-requires : (t : ℕ) → weigh-way-lts.Need-past-requires (claims t) (weigh-way-at t) weigh-way.Post
+weigh-way-past-requires t c κs = search needs
 
 weigh-way-add-weigh-way : (t : ℕ) → weigh-way-lts.Need-add-weigh-way (claims t) (weigh-way-at t) weigh-way.Post
 weigh-way-add-weigh-way t c = search needs
@@ -136,12 +136,12 @@ weigh-way-returns-4 : (t : ℕ) → weigh-way-lts.Need-returns-4 (claims t) (wei
 weigh-way-returns-4 t c =
     let at-mark = c .before .before in
     let at-weigh-way = at-mark .before in
-    let at-past-row = at-weigh-way .before .before in
-    let at-look = at-past-row .before in
+    let at-past = at-weigh-way .before .before in
+    let at-look = at-past .before in
     let at-if3 = at-look .before in
     let at-if1 = at-if3 .before .before .before .before .before in
     part-weighed _ _ _ _ _ _ _ _ _ _ _ _ _ _ _ _ _ (at-if1 .if1 .left) (at-if3 .if3 .left) (at-look .look .ensures)
-    (at-past-row .past-row .ensures) (at-weigh-way .weigh-way .ensures) (at-mark .mark .ensures) (c .before .covered .ensures)
+    (at-past .past .ensures) (at-weigh-way .weigh-way .ensures) (at-mark .mark .ensures) (c .before .covered .ensures)
     (c .carry .ensures)
 
 pub +weigh-way-spec : {M : Type 1} → statement M
@@ -158,7 +158,7 @@ pub +weigh-way-spec : {M : Type 1} → statement M
     (weigh-way-weigh-last-requires t)
     (weigh-way-returns-3 t)
     (weigh-way-look-requires t)
-    (weigh-way-past-row-requires t)
+    (weigh-way-past-requires t)
     (weigh-way-add-weigh-way t)
     (weigh-way-sub-weigh-way t)
     (weigh-way-part-weigh-way-start t)

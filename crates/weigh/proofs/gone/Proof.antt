@@ -7,8 +7,8 @@ use Rattle.weigh.proofs.gone.Tie as tie
 gone-row-requires : tie.Need-gone-row-requires
 gone-row-requires c κs = search needs
 
-past-row-requires : tie.Need-past-row-requires
-past-row-requires c κs = search needs
+past-requires : tie.Need-past-requires
+past-requires c κs = search needs
 
 depth-at-requires : tie.Need-depth-at-requires
 depth-at-requires c κs = search needs
@@ -26,9 +26,9 @@ returns : tie.Need-returns
 returns c =
     let at-gone-under = c .before .before .before .before in
     let at-depth-at = at-gone-under .before in
-    let at-past-row = at-depth-at .before in
-    let at-gone-row = at-past-row .before in
-    block-gone _ _ _ _ _ _ _ _ _ _ (at-gone-row .gone-row .ensures) (at-past-row .past-row .ensures)
+    let at-past = at-depth-at .before in
+    let at-gone-row = at-past .before in
+    block-gone _ _ _ _ _ _ _ _ _ _ (at-gone-row .gone-row .ensures) (at-past .past .ensures)
     (at-depth-at .depth-at .ensures) (at-gone-under .gone-under .ensures)
 
 pub gone-spec : {M : Type 1} → statement M
@@ -36,7 +36,7 @@ gone-spec =
     tie.close
     (tie.spec
     gone-row-requires
-    past-row-requires
+    past-requires
     depth-at-requires
     gone-under-requires
     add-t11

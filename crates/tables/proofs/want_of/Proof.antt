@@ -1,8 +1,8 @@
--- The search for a key of the way.
+-- `tables::want_of` meets its contract. Assumes nothing.
 use native.Mathlib.Omega.{arith}
-use Rattle.apply.proofs.Cases.{want-element, want-key}
-use Rattle.apply.proofs.want_of.Statement.{statement}
-use Rattle.apply.proofs.want_of.Tie as tie
+use Rattle.tables.specs.Wants.{want-element, want-key}
+use Rattle.tables.proofs.want_of.Statement.{statement}
+use Rattle.tables.proofs.want_of.Tie as tie
 
 returns : tie.Need-returns
 returns c = want-element _ _ _ _ (omega arith)

@@ -1,11 +1,11 @@
--- `answers::word` meets its contract.
+-- `tables::word` meets its contract.
 -- Assumes nothing.
 use native.Mathlib.Omega.{arith}
 use mathlib.Core.Path.{sym}
 use lib.ListN.{List·getD-eq-default}
 use borrow.Author.Needs.{needs}
-use Rattle.answers.proofs.word.Statement.{statement}
-use Rattle.answers.proofs.word.Tie as tie
+use Rattle.tables.proofs.word.Statement.{statement}
+use Rattle.tables.proofs.word.Tie as tie
 
 mul-result : tie.Need-mul-result
 mul-result c = search needs
