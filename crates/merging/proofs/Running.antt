@@ -87,7 +87,8 @@ module _ {T U W : Tables} {t t′ w : List ℕ} {s s′ : State} {b b′ b″ : 
           going = λ l. absurd (omega (arith, l));
           not-yet = λ l. absurd (omega (arith, l));
           took = λ o.
-              let last : ReadsOn b′ c [] b″ (r .cut) = subst (λ chunk. ReadsOn b′ c chunk b″ (r .cut)) (n .ended e (not-true (r .failed) o)) (n .reads) in
+              let none : n .chunk ≡ [] = n .ended e (not-true (r .failed) o) in
+              let last : ReadsOn b′ c [] b″ (r .cut) = subst (λ chunk. ReadsOn b′ c chunk b″ (r .cut)) none (n .reads) in
               let run : FeedsAll T t s b unread (g .done ++ [] ∷ []) W w (f .state) = g .on ([] ∷ []) W w (f .state) (ends f last h) in
               record {
                 chunks = g .done;

@@ -4,7 +4,7 @@
 -- Assumes nothing: these are definitions.
 use Prim.Native.Nat.{ℕ, _-_}
 use mathlib.Core.Path.{_≡_}
-use mathlib.Core.Bool.{true, false}
+use mathlib.Core.Bool.{Bool, true, false, not}
 use mathlib.Core.List.{List, [], _∷_, _++_}
 use lib.Dec.{eqb}
 use lib.IntN.{ℤ, pos, negsuc}
@@ -23,21 +23,25 @@ use Rattle.merging.specs.declared.Input.{Input}
 abbrev pub readBytes : List ℕ → Cut → ℤ → List ℕ
 readBytes b c got = take (clamped got (length b - c .to)) (drop (c .to) b)
 
--- it answered that no byte came
-abbrev pub None : ℤ → Type 0
-None (pos k) = k ≡ 0
-None (negsuc k) = Unit {0}
+-- reading has failed: it answered a negative number, and not because it was interrupted
+abbrev pub fails : ℤ → Bool → Bool
+fails (pos k) interrupted = false
+fails (negsuc k) interrupted = not interrupted
 
--- Every byte that a read has put behind the held ones is held with them. The input has ended if no byte came, and not otherwise.
-pub record Came (b : List ℕ) (c : Cut) (got : ℤ) (r : Input) : Type 0 where
+-- nothing more is read: it answered that no byte came, or reading has failed
+abbrev pub ends : ℤ → Bool → Bool
+ends (pos k) interrupted = eqb k 0
+ends (negsuc k) interrupted = not interrupted
+
+-- Every byte that a read has put behind the held ones is held with them.
+pub record Came (b : List ℕ) (c : Cut) (got : ℤ) (interrupted : Bool) (r : Input) : Type 0 where
   pub holds : Holds b (r .cut)
   pub reads : ReadsOn b c (readBytes b c got) b (r .cut)
-  pub ended : r .ended ≡ eqb (length (readBytes b c got)) 0
-  pub none : r .ended ≡ true → None got
-  pub failed : r .failed ≡ false
+  pub ended : r .ended ≡ ends got interrupted
+  pub failed : r .failed ≡ fails got interrupted
 
--- A chunk was read behind the held bytes, none of which is lost. The input has ended if it has no bytes; where reading has failed nothing
--- more is received.
+-- A chunk was read behind the held bytes, none of which is lost. Where reading has failed nothing more is read; the input has ended only if
+-- the chunk has no bytes.
 pub record ReadOn (b : List ℕ) (c : Cut) (r : Input) (b′ : List ℕ) : Type 0 where
   pub chunk : List ℕ
   pub holds : Holds b′ (r .cut)

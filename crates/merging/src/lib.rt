@@ -29,12 +29,20 @@ struct Merged {
     ok: bool,
 }
 
-// What a read that has answered `got` comes to: so many bytes are held behind those that were held.
-fn came(buf: &[u8], held: Cut, got: isize) -> Input
+// What a read that has answered `got` comes to: so many bytes are held behind those that were held. If it is negative, reading has failed
+// or was interrupted.
+fn came(buf: &[u8], held: Cut, got: isize, interrupted: bool) -> Input
     requires { ⌜ Holds (now buf) held ⌝ }
     requires { ⌜ held .to < length (now buf) ⌝ }
-    ensures { λ r. ⌜ Came (now (buf .entry)) held got r ⌝ }
+    ensures { λ r. ⌜ Came (now (buf .entry)) held got interrupted r ⌝ }
 {
+    if got < 0 {
+        return Input {
+            cut: held,
+            ended: !interrupted,
+            failed: !interrupted,
+        };
+    }
     let to = held.to;
     let n = io::count(got, &buf[to..]);
     let cut = Cut {
@@ -49,7 +57,8 @@ fn came(buf: &[u8], held: Cut, got: isize) -> Input
     }
 }
 
-// Reads on behind the bytes that are held. There is room, so a read of no bytes is the input's end.
+// Reads on behind the bytes that are held. There is room, so a read of no bytes is the input's end. `errno` says something only if the
+// read has failed; `came` looks at it only then.
 fn read_on(buf: &mut [u8], c: Cut) -> Input
     requires { ⌜ Holds (now buf) c ⌝ }
     requires { ⌜ c .to - c .from < length (now buf) ⌝ }
@@ -58,18 +67,12 @@ fn read_on(buf: &mut [u8], c: Cut) -> Input
     let held = stream::make_room(buf, c);
     let to = held.to;
     let got = libc::read(STDIN_FILENO, &mut buf[to..]);
-    if got < 0 {
-        let failed = os::errno() != libc::EINTR;
-        if failed {
-            os::fail(b"merge: standard input");
-        }
-        return Input {
-            cut: held,
-            ended: failed,
-            failed,
-        };
+    let interrupted = os::errno() == libc::EINTR;
+    let r = came(buf, held, got, interrupted);
+    if r.failed {
+        os::fail(b"merge: standard input");
     }
-    came(buf, held, got)
+    r
 }
 
 // Receives all messages of standard input into a new terminal. A proved loop has to end, and nothing says that the input does, so the

@@ -1,11 +1,11 @@
 -- `merging::read_on` meets its contract: the bytes that come stand behind those that are held. Assumes nothing.
 use native.Mathlib.Omega.{arith}
+use Rattle.merging.proofs.Reading.{room-free, room-holds, reads-chunk}
 use borrow.Author.Needs.{needs}
 use Rattle.merging.proofs.read_on.Statement.{statement}
 use Rattle.merging.proofs.read_on.Tie as tie
 use Rattle.merging.proofs.read_on.Reads as reads
 use Rattle.merging.proofs.read_on.Lts as lts
-use Rattle.merging.proofs.Reading.{room-free, room-holds, reads-nothing, reads-some}
 use Rattle.libc.proofs.read.Reads as read-reads
 use Rattle.merging.proofs.came.Reads as came-reads
 use Rattle.os.proofs.errno.Reads as errno-reads
@@ -30,6 +30,10 @@ read-requires c κs = search needs
 errno-requires : tie.Need-errno-requires
 errno-requires c κs = search needs
 
+came-requires : tie.Need-came-requires
+came-requires c κs =
+    (room-holds (c .before .before .before .before .before .before .before .before .make-room .ensures) (c .before .before .before .before .read .last .1 .0) (c .before .before .before .before .read .kept .1 .0), room-free (c .before .before .before .before .before .before .before .before .make-room .ensures) (c .before .before .before .before .read .last .1 .0) (c .before .before .before .before .read .kept .1 .0) (omega (arith, c .before .before .before .before .before .before .before .before .make-room .kept, c .before .before .before .before .before .before .before .before .before .before .before .pre .1)))
+
 slice-aggregate-fail : tie.Need-slice-aggregate-fail
 slice-aggregate-fail c = search needs
 
@@ -40,22 +44,13 @@ same-length : tie.Need-same-length
 same-length c = search needs
 
 returns : tie.Need-returns
-returns c = reads-nothing (c .before .before .before .before .before .before .before .before .before .before .before .make-room .ensures) (c .before .before .before .before .before .before .before .read .last .1 .0) (c .before .before .before .before .before .before .before .read .kept .1 .0) _
+returns c = reads-chunk (c .before .before .before .before .before .before .before .before .before .before .before .before .make-room .ensures) (c .before .before .before .before .before .before .before .before .read .last .1 .0) (c .before .before .before .before .before .before .before .before .read .kept .1 .0) _ _ (c .before .before .before .came .ensures)
 
 same-length-2 : tie.Need-same-length-2
 same-length-2 c = search needs
 
 returns-2 : tie.Need-returns-2
-returns-2 c = reads-nothing (c .before .before .before .before .before .before .before .before .before .make-room .ensures) (c .before .before .before .before .before .read .last .1 .0) (c .before .before .before .before .before .read .kept .1 .0) _
-
-came-requires : tie.Need-came-requires
-came-requires c κs = (room-holds (c .before .before .before .before .before .before .before .before .make-room .ensures) (c .before .before .before .before .read .last .1 .0) (c .before .before .before .before .read .kept .1 .0), room-free (c .before .before .before .before .before .before .before .before .make-room .ensures) (c .before .before .before .before .read .last .1 .0) (c .before .before .before .before .read .kept .1 .0) (omega (arith, c .before .before .before .before .before .before .before .before .make-room .kept, c .before .before .before .before .before .before .before .before .before .before .before .pre .1)))
-
-same-length-3 : tie.Need-same-length-3
-same-length-3 c = search needs
-
-returns-3 : tie.Need-returns-3
-returns-3 c = reads-some (c .before .before .before .before .before .before .before .before .before .make-room .ensures) (c .before .before .before .before .before .read .last .1 .0) (c .before .before .before .before .before .read .kept .1 .0) _ (c .came .ensures)
+returns-2 c = reads-chunk (c .before .before .before .before .before .before .before .before .before .before .make-room .ensures) (c .before .before .before .before .before .before .read .last .1 .0) (c .before .before .before .before .before .before .read .kept .1 .0) _ _ (c .before .came .ensures)
 
 pub read-on-spec : {M : Type 1} → statement M
 read-on-spec =
@@ -67,12 +62,10 @@ read-on-spec =
     part-read-end
     read-requires
     errno-requires
+    came-requires
     slice-aggregate-fail
     fail-requires
     same-length
     returns
     same-length-2
-    returns-2
-    came-requires
-    same-length-3
-    returns-3)
+    returns-2)
