@@ -66,6 +66,10 @@ pub record KeepsMerged (U : Tables) (s : State) : Type 0 where
   pub waiting : List ℕ
   pub merged : Whole.Merged input U waiting s
 
+-- whatever input has come to this memory and state, these bytes are what `merge` prints of it
+abbrev pub SheetOf : Tables → State → List ℕ → Type 0
+SheetOf U s bytes = (input waiting : List ℕ) → Whole.Merged input U waiting s → Merges input bytes
+
 -- bytes that `merge` prints of some input
 pub record Printable (bytes : List ℕ) : Type 0 where
   pub input : List ℕ

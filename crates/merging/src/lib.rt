@@ -14,7 +14,7 @@ ghost use Rattle.meaning.specs.Receive.{newTerminal};
 ghost use Rattle.tables.specs.Holding.{four};
 ghost use Rattle.stream.specs.Pieces.{Holds};
 ghost use Rattle.terminal.specs.Keeping.{Keeps};
-ghost use Rattle.merging.specs.Promises.{Came, ReadOn, TookAll, KeepsMerged, Printable};
+ghost use Rattle.merging.specs.Promises.{Came, ReadOn, TookAll, KeepsMerged, SheetOf, Printable};
 
 // The bytes that are read; whether no byte follows them; whether reading has failed.
 struct Input {
@@ -131,7 +131,8 @@ fn whole_sheet(
     requires { ⌜ KeepsMerged (four (now heads) (now keys) (now marks) (now values)) s ⌝ }
     requires { ⌜ 65536 ≤ length (now buf) ⌝ }
     ensures { λ r. ⌜ r ≤ length (now (buf .exit)) ⌝ }
-    ensures { λ r. ⌜ Printable (take r (now (buf .exit))) ⌝ }
+    ensures { λ r. ⌜ SheetOf (four (now (heads .entry)) (now (keys .entry)) (now (marks .entry)) (now (values .entry))) s
+        (take r (now (buf .exit))) ⌝ }
 {
     let c = s.counts;
     let seen = s.seen;
@@ -142,8 +143,7 @@ fn whole_sheet(
     }
 }
 
-// Hands bytes that `merge` prints to standard output. No contract of `io::write_all` says what is written: that these are the bytes that
-// are handed to it is all that is proved.
+// Hands bytes to standard output, and only such as `merge` prints. No contract of `io::write_all` says what is written.
 fn write_out(bytes: &[u8])
     requires { ⌜ Printable (now bytes) ⌝ }
 {
@@ -170,7 +170,9 @@ fn print(heads: &[u64], keys: &[u64], marks: &[u64], values: &[u64], s: State)
     write_first(buf, n);
 }
 
-// Reads standard input, and prints the sheet unless reading has failed.
+// Reads standard input, and prints the sheet unless reading has failed. Proved: the bytes that are handed to `io::write_all` are the sheet
+// of the terminal that has received the messages of the bytes that came, one after another. That these are the bytes of standard input,
+// and that what is handed over is written, no contract of `libc` says.
 pub fn merge() {
     let mut heads = [0u64; 264];
     let mut keys = [0u64; 792];
