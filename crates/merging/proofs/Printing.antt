@@ -2,13 +2,12 @@
 -- Assumes nothing.
 use Prim.Native.Nat.{ℕ, _≤_}
 use native.Mathlib.Omega.{arith}
-use mathlib.Core.Path.{_≡_, refl, sym, subst, _∙_}
+use mathlib.Core.Path.{_≡_, subst}
 use mathlib.Core.List.{List}
 use lib.ListN.{length, take}
 use borrow.Author.Tests.{le-ltb}
 use Rattle.meaning.specs.Sheet.{sheet, save}
 use Rattle.meaning.specs.Promises.{Saves, Merges}
-use Rattle.meaning.specs.declared.Counters.{Counters}
 use Rattle.meaning.specs.declared.Saved.{Saved}
 use Rattle.meaning.specs.declared.Saved.the-variants.{Written, ShortBuffer}
 use Rattle.theorems.specs.Sizes.{sheet-short}

@@ -4,7 +4,7 @@ use Prim.Native.Nat.{ℕ, zero, suc, _+_, _-_, _≤_, _<_, min}
 use native.Mathlib.Omega.{arith}
 use mathlib.Core.Path.{_≡_, refl, sym, ap, subst, _∙_}
 use mathlib.Core.Bool.{Bool, true, false, not, true≢false}
-use mathlib.Core.List.{List, [], _++_, append-nil}
+use mathlib.Core.List.{List, _++_, append-nil}
 use lib.Dec.{eqb}
 use lib.IntN.{ℤ, pos, negsuc}
 use lib.Signed.{ltZ}
@@ -16,7 +16,6 @@ use Rattle.stream.specs.Pieces.{held, Holds, Moved}
 use Rattle.stream.specs.declared.Cut.{Cut}
 use Rattle.stream.proofs.Pieces.{drop-take}
 use Rattle.stream.proofs.Moving.{grown-holds, grown-held}
-use Rattle.feed.specs.Whole.{ReadsOn}
 use Rattle.merging.specs.Promises.{readBytes, fails, ends, Came, ReadOn}
 use Rattle.merging.specs.declared.Input.{Input}
 

@@ -8,7 +8,6 @@ use terminal::State;
 ghost use Prim.Native.Nat.{_-_, _≤_, _<_};
 ghost use mathlib.Core.Path.{_≡_};
 ghost use mathlib.Core.Bool.{true};
-ghost use mathlib.Core.List.{List};
 ghost use lib.ListN.{length, take};
 ghost use Rattle.meaning.specs.Receive.{newTerminal};
 ghost use Rattle.tables.specs.Holding.{four};

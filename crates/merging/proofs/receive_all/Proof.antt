@@ -2,7 +2,6 @@
 use native.Mathlib.Omega.{arith}
 use mathlib.Core.Path.{_≡_, refl, _∙_}
 use lib.ListN.{length}
-use borrow.Author.Needs.{needs}
 use Rattle.tables.specs.Holding.{four}
 use Rattle.merging.proofs.Running.{Turning, turning-none, turning-on, turning-ends}
 use Rattle.merging.proofs.receive_all.Statement.{statement}
