@@ -1,12 +1,13 @@
 -- `merging::read_on` meets its contract: the bytes that come stand behind those that are held. Assumes nothing.
 use native.Mathlib.Omega.{arith}
+use Rattle.merging.proofs.Reading.{room-free, room-holds, reads-chunk}
 use borrow.Author.Needs.{needs}
 use Rattle.merging.proofs.read_on.Statement.{statement}
 use Rattle.merging.proofs.read_on.Tie as tie
 use Rattle.merging.proofs.read_on.Reads as reads
 use Rattle.merging.proofs.read_on.Lts as lts
-use Rattle.io.proofs.count.Reads as count-reads
 use Rattle.libc.proofs.read.Reads as read-reads
+use Rattle.merging.proofs.came.Reads as came-reads
 use Rattle.os.proofs.errno.Reads as errno-reads
 use Rattle.os.proofs.fail.Reads as fail-reads
 use Rattle.stream.proofs.make_room.Reads as make-room-reads
@@ -29,6 +30,10 @@ read-requires c κs = search needs
 errno-requires : tie.Need-errno-requires
 errno-requires c κs = search needs
 
+came-requires : tie.Need-came-requires
+came-requires c κs =
+    (room-holds (c .before .before .before .before .before .before .before .before .make-room .ensures) (c .before .before .before .before .read .last .1 .0) (c .before .before .before .before .read .kept .1 .0), room-free (c .before .before .before .before .before .before .before .before .make-room .ensures) (c .before .before .before .before .read .last .1 .0) (c .before .before .before .before .read .kept .1 .0) (omega (arith, c .before .before .before .before .before .before .before .before .make-room .kept, c .before .before .before .before .before .before .before .before .before .before .before .pre .1)))
+
 slice-aggregate-fail : tie.Need-slice-aggregate-fail
 slice-aggregate-fail c = search needs
 
@@ -39,38 +44,13 @@ same-length : tie.Need-same-length
 same-length c = search needs
 
 returns : tie.Need-returns
-returns c = search needs
+returns c = reads-chunk (c .before .before .before .before .before .before .before .before .before .before .before .before .make-room .ensures) (c .before .before .before .before .before .before .before .before .read .last .1 .0) (c .before .before .before .before .before .before .before .before .read .kept .1 .0) _ _ (c .before .before .before .came .ensures)
 
 same-length-2 : tie.Need-same-length-2
 same-length-2 c = search needs
 
 returns-2 : tie.Need-returns-2
-returns-2 c = search needs
-
-sub-count : tie.Need-sub-count
-sub-count c = search needs
-
-part-count-start : tie.Need-part-count-start
-part-count-start c = search needs
-
-part-count-end : tie.Need-part-count-end
-part-count-end c = search needs
-
-count-requires : tie.Need-count-requires
-count-requires c κs = search needs
-
-add-t13 : tie.Need-add-t13
-add-t13 c = search needs
-
-same-length-3 : tie.Need-same-length-3
-same-length-3 c = search needs
-
-returns-3 : tie.Need-returns-3
-returns-3 c = record {
-  low = omega (arith, c .before .before .before .before .before .before .before .before .before .before .make-room .ensures .holds .low);
-  high = omega (arith, c .before .before .before .before .before .before .before .before .before .before .make-room .ensures .holds .high, c .count .ensures);
-  begun = λ e. omega (arith, c .before .before .before .before .before .before .before .before .before .before .make-room .ensures .holds .begun e);
-}
+returns-2 c = reads-chunk (c .before .before .before .before .before .before .before .before .before .before .make-room .ensures) (c .before .before .before .before .before .before .read .last .1 .0) (c .before .before .before .before .before .before .read .kept .1 .0) _ _ (c .before .came .ensures)
 
 pub read-on-spec : {M : Type 1} → statement M
 read-on-spec =
@@ -82,16 +62,10 @@ read-on-spec =
     part-read-end
     read-requires
     errno-requires
+    came-requires
     slice-aggregate-fail
     fail-requires
     same-length
     returns
     same-length-2
-    returns-2
-    sub-count
-    part-count-start
-    part-count-end
-    count-requires
-    add-t13
-    same-length-3
-    returns-3)
+    returns-2)

@@ -1,44 +1,40 @@
--- `merging::receive_all` is safe and ends. The invariant: the cut lies in the buffer. Assumes nothing.
+-- `merging::receive_all` meets its contract. The invariant: the run so far, of which the next turn is a part. Assumes nothing.
 use native.Mathlib.Omega.{arith}
-use mathlib.Core.Path.{_≡_, refl}
-use mathlib.Core.Bool.{false≢true}
+use mathlib.Core.Path.{_≡_, refl, _∙_}
 use lib.ListN.{length}
-use Rattle.stream.specs.Pieces.{Holds}
+use Rattle.tables.specs.Holding.{four}
+use Rattle.merging.proofs.Running.{Turning, turning-none, turning-on, turning-ends}
 use Rattle.merging.proofs.receive_all.Statement.{statement}
 use Rattle.merging.proofs.receive_all.Tie as tie
 use Rattle.merging.proofs.receive_all.Reads as reads
 use Rattle.merging.proofs.receive_all.Lts as lts
 use Rattle.feed.proofs.take_in.Reads as take-in-reads
 use Rattle.merging.proofs.read_on.Reads as read-on-reads
-use Rattle.terminal.proofs.empty.Reads as empty-reads
 
 abbrev Inv-loop : tie.InvT-loop
 Inv-loop heads₀ keys₀ marks₀ values₀ waiting₀ buf₀ state₀ cut₀ ok₀ turns₀ heads keys marks values waiting buf state cut ok turns =
     ((length heads ≡ length heads₀) × (length keys ≡ length keys₀) × (length marks ≡ length marks₀) × (length values ≡ length values₀)
     × (length waiting ≡ length waiting₀) × (length buf ≡ length buf₀))
-    × Holds buf cut
+    × Turning (four heads₀ keys₀ marks₀ values₀) waiting₀ state₀ buf₀ (four heads keys marks values) waiting state buf cut ok turns
 
 abbrev μ-loop : tie.MeasureT-loop
 μ-loop heads₀ keys₀ marks₀ values₀ waiting₀ buf₀ state₀ cut₀ ok₀ turns₀ heads keys marks values waiting buf state cut ok turns =
     turns
 
-empty-requires : tie.Need-empty-requires Inv-loop μ-loop
-empty-requires c κs = tt
-
 loop-holds : tie.Need-loop-holds Inv-loop μ-loop
-loop-holds c = ((refl, refl, refl, refl, refl, refl), record { low = omega arith; high = omega arith; begun = λ e. absurd (false≢true e) })
+loop-holds c = ((refl, refl, refl, refl, refl, refl), turning-none _ _ _ _ _)
 
 read-on-requires : tie.Need-read-on-requires Inv-loop μ-loop
-read-on-requires c κs = c .before .before .loop .inv .1
+read-on-requires c κs = (c .before .before .loop .inv .1 .holds, omega (arith, c .before .before .loop .inv .0 .5, c .before .before .loop .inv .1 .short, c .before .before .before .before .before .before .before .before .before .pre .1))
 
 take-in-requires : tie.Need-take-in-requires Inv-loop μ-loop
-take-in-requires c κs = c .before .before .before .before .before .before .before .before .before .read-on .ensures
+take-in-requires c κs = c .before .before .before .before .before .before .before .before .before .read-on .ensures .holds
 
 loop-less : tie.Need-loop-less Inv-loop μ-loop
 loop-less c = omega (arith, c .before .before .before .before .before .before .before .before .before .before .before .before .before .before .before .before .before .before .before .before .before .before .before .before .before .before .loop-test .taken)
 
 loop-again : tie.Need-loop-again Inv-loop μ-loop
-loop-again c = ((omega (arith, c .before .before .before .before .before .before .before .before .before .before .before .before .before .before .before .before .before .before .before .before .before .before .before .before .before .before .before .loop .inv .0 .0, c .before .before .before .before .before .before .before .before .before .before .before .before .before .before .before .before .before .before .before .before .before .before .before .before .read-on .kept, c .before .before .before .before .before .before .before .before .before .before .before .before .before .before .take-in .kept), omega (arith, c .before .before .before .before .before .before .before .before .before .before .before .before .before .before .before .before .before .before .before .before .before .before .before .before .before .before .before .loop .inv .0 .1, c .before .before .before .before .before .before .before .before .before .before .before .before .before .before .before .before .before .before .before .before .before .before .before .before .read-on .kept, c .before .before .before .before .before .before .before .before .before .before .before .before .before .before .take-in .kept), omega (arith, c .before .before .before .before .before .before .before .before .before .before .before .before .before .before .before .before .before .before .before .before .before .before .before .before .before .before .before .loop .inv .0 .2, c .before .before .before .before .before .before .before .before .before .before .before .before .before .before .before .before .before .before .before .before .before .before .before .before .read-on .kept, c .before .before .before .before .before .before .before .before .before .before .before .before .before .before .take-in .kept), omega (arith, c .before .before .before .before .before .before .before .before .before .before .before .before .before .before .before .before .before .before .before .before .before .before .before .before .before .before .before .loop .inv .0 .3, c .before .before .before .before .before .before .before .before .before .before .before .before .before .before .before .before .before .before .before .before .before .before .before .before .read-on .kept, c .before .before .before .before .before .before .before .before .before .before .before .before .before .before .take-in .kept), omega (arith, c .before .before .before .before .before .before .before .before .before .before .before .before .before .before .before .before .before .before .before .before .before .before .before .before .before .before .before .loop .inv .0 .4, c .before .before .before .before .before .before .before .before .before .before .before .before .before .before .before .before .before .before .before .before .before .before .before .before .read-on .kept, c .before .before .before .before .before .before .before .before .before .before .before .before .before .before .take-in .kept), omega (arith, c .before .before .before .before .before .before .before .before .before .before .before .before .before .before .before .before .before .before .before .before .before .before .before .before .before .before .before .loop .inv .0 .5, c .before .before .before .before .before .before .before .before .before .before .before .before .before .before .before .before .before .before .before .before .before .before .before .before .read-on .kept, c .before .before .before .before .before .before .before .before .before .before .before .before .before .before .take-in .kept)), c .before .before .before .before .before .before .before .before .before .before .before .before .before .before .take-in .ensures .feeds .holds)
+loop-again c = ((c .before .before .before .before .before .before .before .before .before .before .before .before .before .before .take-in .kept .0 ∙ c .before .before .before .before .before .before .before .before .before .before .before .before .before .before .before .before .before .before .before .before .before .before .before .before .before .before .before .loop .inv .0 .0, c .before .before .before .before .before .before .before .before .before .before .before .before .before .before .take-in .kept .1 .0 ∙ c .before .before .before .before .before .before .before .before .before .before .before .before .before .before .before .before .before .before .before .before .before .before .before .before .before .before .before .loop .inv .0 .1, c .before .before .before .before .before .before .before .before .before .before .before .before .before .before .take-in .kept .1 .1 .0 ∙ c .before .before .before .before .before .before .before .before .before .before .before .before .before .before .before .before .before .before .before .before .before .before .before .before .before .before .before .loop .inv .0 .2, c .before .before .before .before .before .before .before .before .before .before .before .before .before .before .take-in .kept .1 .1 .1 .0 ∙ c .before .before .before .before .before .before .before .before .before .before .before .before .before .before .before .before .before .before .before .before .before .before .before .before .before .before .before .loop .inv .0 .3, c .before .before .before .before .before .before .before .before .before .before .before .before .before .before .take-in .kept .1 .1 .1 .1 .0 ∙ c .before .before .before .before .before .before .before .before .before .before .before .before .before .before .before .before .before .before .before .before .before .before .before .before .before .before .before .loop .inv .0 .4, c .before .before .before .before .before .before .before .before .before .before .before .before .before .before .before .before .before .before .before .before .before .before .before .before .read-on .kept .0 ∙ c .before .before .before .before .before .before .before .before .before .before .before .before .before .before .before .before .before .before .before .before .before .before .before .before .before .before .before .loop .inv .0 .5), turning-ends (c .before .before .before .before .before .before .before .before .before .before .before .before .before .before .before .before .before .before .before .before .before .before .before .before .before .before .before .loop .inv .1) (omega (arith, c .before .before .before .before .before .before .before .before .before .before .before .before .before .before .before .before .before .before .before .before .before .before .before .before .before .before .loop-test .taken)) (c .before .before .before .before .before .before .before .before .before .before .before .before .before .before .before .before .before .before .before .before .before .before .before .before .read-on .ensures) (c .before .before .before .before .before .before .before .before .before .before .before .before .before .before .take-in .ensures) (c .before .if1 .taken) (c .before .before .before .before .before .before .before .before .before .before .before .before .before .before .before .before .before .before .before .before .before .before .before .before .before .before .before .before .before .before .before .before .before .before .pre .0))
 
 sub-turns : tie.Need-sub-turns Inv-loop μ-loop
 sub-turns c = omega (arith, c .before .before .before .before .before .before .before .before .before .before .before .before .before .before .before .before .before .before .before .before .before .before .before .before .before .loop-test .taken)
@@ -47,28 +43,28 @@ loop-less-2 : tie.Need-loop-less-2 Inv-loop μ-loop
 loop-less-2 c = omega (arith, c .before .before .before .before .before .before .before .before .before .before .before .before .before .before .before .before .before .before .before .before .before .before .before .before .before .loop-test .taken)
 
 loop-again-2 : tie.Need-loop-again-2 Inv-loop μ-loop
-loop-again-2 c = ((omega (arith, c .before .before .before .before .before .before .before .before .before .before .before .before .before .before .before .before .before .before .before .before .before .before .before .before .before .before .loop .inv .0 .0, c .before .before .before .before .before .before .before .before .before .before .before .before .before .before .before .before .before .before .before .before .before .before .before .read-on .kept, c .before .before .before .before .before .before .before .before .before .before .before .before .before .take-in .kept), omega (arith, c .before .before .before .before .before .before .before .before .before .before .before .before .before .before .before .before .before .before .before .before .before .before .before .before .before .before .loop .inv .0 .1, c .before .before .before .before .before .before .before .before .before .before .before .before .before .before .before .before .before .before .before .before .before .before .before .read-on .kept, c .before .before .before .before .before .before .before .before .before .before .before .before .before .take-in .kept), omega (arith, c .before .before .before .before .before .before .before .before .before .before .before .before .before .before .before .before .before .before .before .before .before .before .before .before .before .before .loop .inv .0 .2, c .before .before .before .before .before .before .before .before .before .before .before .before .before .before .before .before .before .before .before .before .before .before .before .read-on .kept, c .before .before .before .before .before .before .before .before .before .before .before .before .before .take-in .kept), omega (arith, c .before .before .before .before .before .before .before .before .before .before .before .before .before .before .before .before .before .before .before .before .before .before .before .before .before .before .loop .inv .0 .3, c .before .before .before .before .before .before .before .before .before .before .before .before .before .before .before .before .before .before .before .before .before .before .before .read-on .kept, c .before .before .before .before .before .before .before .before .before .before .before .before .before .take-in .kept), omega (arith, c .before .before .before .before .before .before .before .before .before .before .before .before .before .before .before .before .before .before .before .before .before .before .before .before .before .before .loop .inv .0 .4, c .before .before .before .before .before .before .before .before .before .before .before .before .before .before .before .before .before .before .before .before .before .before .before .read-on .kept, c .before .before .before .before .before .before .before .before .before .before .before .before .before .take-in .kept), omega (arith, c .before .before .before .before .before .before .before .before .before .before .before .before .before .before .before .before .before .before .before .before .before .before .before .before .before .before .loop .inv .0 .5, c .before .before .before .before .before .before .before .before .before .before .before .before .before .before .before .before .before .before .before .before .before .before .before .read-on .kept, c .before .before .before .before .before .before .before .before .before .before .before .before .before .take-in .kept)), c .before .before .before .before .before .before .before .before .before .before .before .before .before .take-in .ensures .feeds .holds)
+loop-again-2 c = ((c .before .before .before .before .before .before .before .before .before .before .before .before .before .take-in .kept .0 ∙ c .before .before .before .before .before .before .before .before .before .before .before .before .before .before .before .before .before .before .before .before .before .before .before .before .before .before .loop .inv .0 .0, c .before .before .before .before .before .before .before .before .before .before .before .before .before .take-in .kept .1 .0 ∙ c .before .before .before .before .before .before .before .before .before .before .before .before .before .before .before .before .before .before .before .before .before .before .before .before .before .before .loop .inv .0 .1, c .before .before .before .before .before .before .before .before .before .before .before .before .before .take-in .kept .1 .1 .0 ∙ c .before .before .before .before .before .before .before .before .before .before .before .before .before .before .before .before .before .before .before .before .before .before .before .before .before .before .loop .inv .0 .2, c .before .before .before .before .before .before .before .before .before .before .before .before .before .take-in .kept .1 .1 .1 .0 ∙ c .before .before .before .before .before .before .before .before .before .before .before .before .before .before .before .before .before .before .before .before .before .before .before .before .before .before .loop .inv .0 .3, c .before .before .before .before .before .before .before .before .before .before .before .before .before .take-in .kept .1 .1 .1 .1 .0 ∙ c .before .before .before .before .before .before .before .before .before .before .before .before .before .before .before .before .before .before .before .before .before .before .before .before .before .before .loop .inv .0 .4, c .before .before .before .before .before .before .before .before .before .before .before .before .before .before .before .before .before .before .before .before .before .before .before .read-on .kept .0 ∙ c .before .before .before .before .before .before .before .before .before .before .before .before .before .before .before .before .before .before .before .before .before .before .before .before .before .before .loop .inv .0 .5), turning-on (c .before .before .before .before .before .before .before .before .before .before .before .before .before .before .before .before .before .before .before .before .before .before .before .before .before .before .loop .inv .1) (omega (arith, c .before .before .before .before .before .before .before .before .before .before .before .before .before .before .before .before .before .before .before .before .before .before .before .before .before .loop-test .taken)) (c .before .before .before .before .before .before .before .before .before .before .before .before .before .before .before .before .before .before .before .before .before .before .before .read-on .ensures) (c .before .before .before .before .before .before .before .before .before .before .before .before .before .take-in .ensures) (c .if1 .left) _)
 
 same-length : tie.Need-same-length Inv-loop μ-loop
-same-length c = omega (arith, c .before .loop .inv .0 .0)
+same-length c = c .before .loop .inv .0 .0
 
 same-length-2 : tie.Need-same-length-2 Inv-loop μ-loop
-same-length-2 c = omega (arith, c .before .loop .inv .0 .1)
+same-length-2 c = c .before .loop .inv .0 .1
 
 same-length-3 : tie.Need-same-length-3 Inv-loop μ-loop
-same-length-3 c = omega (arith, c .before .loop .inv .0 .2)
+same-length-3 c = c .before .loop .inv .0 .2
 
 same-length-4 : tie.Need-same-length-4 Inv-loop μ-loop
-same-length-4 c = omega (arith, c .before .loop .inv .0 .3)
+same-length-4 c = c .before .loop .inv .0 .3
 
 same-length-5 : tie.Need-same-length-5 Inv-loop μ-loop
-same-length-5 c = omega (arith, c .before .loop .inv .0 .4)
+same-length-5 c = c .before .loop .inv .0 .4
 
 same-length-6 : tie.Need-same-length-6 Inv-loop μ-loop
-same-length-6 c = omega (arith, c .before .loop .inv .0 .5)
+same-length-6 c = c .before .loop .inv .0 .5
 
 returns : tie.Need-returns Inv-loop μ-loop
-returns c = tt
+returns c = c .before .loop .inv .1 .took
 
 pub receive-all-spec : {M : Type 1} → statement M
 receive-all-spec =
@@ -76,7 +72,6 @@ receive-all-spec =
     (tie.spec
     Inv-loop
     μ-loop
-    empty-requires
     loop-holds
     read-on-requires
     take-in-requires

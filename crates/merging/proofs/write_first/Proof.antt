@@ -1,4 +1,4 @@
--- `merging::write_first` is safe: it writes only bytes of the buffer. Assumes nothing.
+-- `merging::write_first` hands on only bytes of the buffer, and only those that may be printed. Assumes nothing.
 use native.Mathlib.Omega.{arith}
 use mathlib.Core.Path.{sym}
 use lib.Seq.{length-take-le}
@@ -7,38 +7,16 @@ use Rattle.merging.proofs.write_first.Statement.{statement}
 use Rattle.merging.proofs.write_first.Tie as tie
 use Rattle.merging.proofs.write_first.Reads as reads
 use Rattle.merging.proofs.write_first.Lts as lts
-use Rattle.io.proofs.write_all.Reads as write-all-reads
-use Rattle.os.proofs.fail.Reads as fail-reads
+use Rattle.merging.proofs.write_out.Reads as write-out-reads
 
-slice-aggregate-write-all : tie.Need-slice-aggregate-write-all
-slice-aggregate-write-all c = sym (length-take-le _ _ (omega arith))
+slice-aggregate-write-out : tie.Need-slice-aggregate-write-out
+slice-aggregate-write-out c = sym (length-take-le _ _ (omega (arith, c .before .before .pre .0)))
 
-write-all-requires : tie.Need-write-all-requires
-write-all-requires c κs = search needs
-
-slice-aggregate-fail : tie.Need-slice-aggregate-fail
-slice-aggregate-fail c = search needs
-
-fail-requires : tie.Need-fail-requires
-fail-requires c κs = search needs
+write-out-requires : tie.Need-write-out-requires
+write-out-requires c κs = c .before .before .pre .1
 
 returns : tie.Need-returns
 returns c = search needs
 
-returns-2 : tie.Need-returns-2
-returns-2 c = search needs
-
-returns-3 : tie.Need-returns-3
-returns-3 c = search needs
-
 pub write-first-spec : {M : Type 1} → statement M
-write-first-spec =
-    tie.close
-    (tie.spec
-    slice-aggregate-write-all
-    write-all-requires
-    slice-aggregate-fail
-    fail-requires
-    returns
-    returns-2
-    returns-3)
+write-first-spec = tie.close (tie.spec slice-aggregate-write-out write-out-requires returns)
