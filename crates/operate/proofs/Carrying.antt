@@ -4,7 +4,7 @@ use Prim.Native.Nat.{ℕ, suc, _+_, _*_, _≤_, _<_}
 use native.Mathlib.Omega.{arith}
 use mathlib.Core.Path.{_≡_, refl, sym, ap, ap₂, _∙_, subst}
 use mathlib.Core.Bool.{Bool, true, false, cond, true≢false}
-use mathlib.Core.List.{List, []}
+use mathlib.Core.List.{List, _++_}
 use lib.Dec.{leb}
 use lib.ListN.{length, take}
 use borrow.Author.Tests.{leb-false, le-leb}
@@ -21,7 +21,8 @@ use Rattle.meaning.specs.Sheet.{Row, rowsOf}
 use Rattle.meaning.specs.declared.Counters.{Counters}
 use Rattle.theorems.specs.Accepting.{fits-limits}
 use Rattle.theorems.specs.Soundness.{sound-apply}
-use Rattle.rows.specs.Blocks.{applyRows}
+use Rattle.rows.specs.Balanced.{passed-rest, fresh-parts}
+use Rattle.rows.specs.Blocks.{passed, rest, keyBelow, over, applyRows}
 use Rattle.rows.specs.Follows.{apply-rows}
 use Rattle.rows.specs.Within.{underRows, apply-under}
 use Rattle.rows.specs.Counting.{Fresh}
@@ -32,18 +33,20 @@ use Rattle.message.specs.declared.Operation.{Operation}
 use Rattle.tables.specs.Words.{Tables}
 use Rattle.tables.specs.Holding.{Holds}
 use Rattle.tables.specs.declared.Counts.{Counts}
+use Rattle.tables.specs.declared.Stop.{Stop}
 use Rattle.words.specs.Gap.{Gap}
 use Rattle.words.proofs.Gap.{gap-closed}
 use Rattle.apply.specs.Doing.{marksBy, withMarks, Descends}
 use Rattle.apply.proofs.Gaps.{marks-most}
 use Rattle.apply.specs.declared.Act.{Act}
-use Rattle.operate.specs.Judging.{isTaken, readyVerdict, verdict, Stores, Newer, Parts, JudgesReady, Judges}
-use Rattle.operate.specs.Judging.{CarriesWay, CarriesOut, TakesOn, Applies}
+use Rattle.operate.specs.Judging.{isTaken, readyVerdict, forestalled, verdict, Stores, Newer, Parts, Tops}
+use Rattle.operate.specs.Judging.{Forestalls, JudgesReady, Judges, CarriesWay, CarriesOut, TakesOn, Applies}
 use Rattle.operate.specs.declared.Judged.{Judged}
 use Rattle.operate.specs.declared.Judged.the-variants as J
 use Rattle.operate.specs.declared.Outcome.{Outcome}
 use Rattle.operate.specs.declared.Later.{Later}
-use Rattle.operate.proofs.Verdicts.{whole, first-behind, steps-whole, deed-whole, way-part, cut-short, parts-of}
+use Rattle.operate.proofs.Tops.{rows-top}
+use Rattle.operate.proofs.Verdicts.{whole, steps-whole, deed-whole, way-part, cut-short, parts-of}
 
 pub newer : (D : Document) (o : M.Operation) → repeated (D .seen) o ≡ false → Newer D o
 unfolding repeated
@@ -56,14 +59,14 @@ here-stores T c s D S = record { rows = S .rows; counters = refl; sound = S .sou
 abbrev pub actOf : Operation → Act
 actOf op = record { id = op .id; deps = op .deps; deed = op .deed; words = op .words }
 
-module _ (T : Tables) (c : Counts) (a : Act) (ks : List ℕ) (n : ℕ) where
-  pub carry-long : 8 < n → CarriesWay T c a ks n c T
-  carry-long l D o S q w val y = absurd (omega (arith, l, steps-whole _ _ _ ks n o q val .0, steps-whole _ _ _ ks n o q val .1))
+module _ (T : Tables) (c : Counts) (s : Stop) (a : Act) (ks : List ℕ) (n : ℕ) where
+  pub carry-long : 8 < n → CarriesWay T c s a ks n c T
+  carry-long l D o S q w val y t = absurd (omega (arith, l, steps-whole _ _ _ ks n o q val .0, steps-whole _ _ _ ks n o q val .1))
 
-  pub carry-cut : length ks < 3 * n → CarriesWay T c a ks n c T
-  carry-cut l D o S q w val y = absurd (cut-short _ _ _ ks n o q val l)
+  pub carry-cut : length ks < 3 * n → CarriesWay T c s a ks n c T
+  carry-cut l D o S q w val y t = absurd (cut-short _ _ _ ks n o q val l)
 
-module _ (T U : Tables) (c e : Counts) (a : Act) (ks : List ℕ) (n : ℕ) where
+module _ (T U : Tables) (c e : Counts) (s : Stop) (a : Act) (ks : List ℕ) (n : ℕ) where
   value-whole : (o : M.Operation) → a .words ≡ deedWords (o .way) → a .words ≡ deedWords (whole o)
   unfolding deedWords
   value-whole o q = q
@@ -73,70 +76,106 @@ module _ (T U : Tables) (c e : Counts) (a : Act) (ks : List ℕ) (n : ℕ) where
   same-rows o rs q = ap₂ (λ i d. underRows i d 1 (whole o) rs) (q .id) (q .deps) ∙ sym (apply-under o rs)
 
   -- below the root no mark is left to be put in: the gap is closed
-  pub carry-way : (way : List ℕ) (p : ℕ) → way ≡ take (3 * n) ks
-      → Descends a 1 way (record { row = 0; mark = 0; value = 0 }) c T e p U → CarriesWay T c a ks n e U
+  pub carry-way : (way : List ℕ) (p : ℕ) → way ≡ take (3 * n) ks → Descends a 1 way s c T e p U → CarriesWay T c s a ks n e U
   unfolding steps
-  carry-way way p part X D o S q w val y =
+  carry-way way p part X D o S q w val y t =
       let l = fits-limits D (S .limits) in
       let r = val .edit .reach in
-      let H = S .rows in
+      let over-it = over 1 (keyBelow (o .top)) in
+      let H = subst (Holds T c) (sym (passed-rest over-it (rowsOf D))) (S .rows) in
       let f = subst (λ i. Fresh i (rowsOf D)) (sym (q .id)) (sound-fresh D (o .id) (S .sound) y) in
-      let d = X [] (rowsOf D) (whole o) H first-behind (part ∙ way-part _ _ _ ks n o q val) (val .edit .first, val .edit .rest)
-      (deed-whole _ _ _ ks n o q val) (value-whole o w) (omega (arith, r)) f (omega arith) (record {
-        rows-spare = omega (arith, r, l .places, H .rows-are);
-        marks-spare = omega (arith, r, l .marks, H .marks-are);
-        values-spare = omega (arith, l .values, H .values-are);
+      let d = X (passed over-it (rowsOf D)) (rest over-it (rowsOf D)) (whole o) H t (part ∙ way-part _ _ _ ks n o q val)
+      (val .edit .first, val .edit .rest) (deed-whole _ _ _ ks n o q val) (value-whole o w) (omega (arith, r))
+      (fresh-parts (a .id) over-it (rowsOf D) f .1) (omega arith) (record {
+        rows-spare = omega (arith, r, l .places, S .rows .rows-are);
+        marks-spare = omega (arith, r, l .marks, S .rows .marks-are);
+        values-spare = omega (arith, l .values, S .rows .values-are);
       }) in
       let none : marksBy (a .deed) 0 ≡ 0 = omega (arith, marks-most (a .deed) 0) in
       let shut : d .table ≡ U .marks =
       sym (gap-closed p (U .marks) (d .table) (subst (λ g. Gap g p (U .marks) (d .table)) none (d .gap))) in
-      let rows = underRows (a .id) (a .deps .at) 1 (whole o) (rowsOf D) in
-      subst (Holds U e) (same-rows o (rowsOf D) q ∙ apply-rows o D) (subst (λ t. Holds (withMarks U t) e rows) shut (d .is .holds))
+      let rows = passed over-it (rowsOf D) ++ underRows (a .id) (a .deps .at) 1 (whole o) (rest over-it (rowsOf D)) in
+      subst (Holds U e)
+      (rows-top 1 (o .top) (o .way) (rowsOf D) (a .id) (a .deps .at) ∙ (same-rows o (rowsOf D) q ∙ apply-rows o D))
+      (subst (λ t. Holds (withMarks U t) e rows) shut (d .is .holds))
 
-pub carry-out : (T U : Tables) (c e : Counts) (op : Operation) → CarriesWay T c (actOf op) (op .way .keys) (op .way .n) e U
-    → CarriesOut T c op e U
-carry-out T U c e op C D o S q val y = C D o S (parts-of op o q) (q .edit .words) val y
+pub carry-out : (T U : Tables) (c e : Counts) (s : Stop) (op : Operation)
+    → CarriesWay T c s (actOf op) (op .way .keys) (op .way .n) e U → CarriesOut T c s op e U
+carry-out T U c e s op C D o S q val y t = C D o S (parts-of op o q) (q .edit .words) val y t
 
--- The verdict, test by test.
+-- 2, 3, 4 and whether it is ready, test by test.
 
-module _ (T : Tables) (c : Counts) (seen : Counters) (op : Operation) (b₂ : Bool) (two : Says notAbove (op .id) (op .deps .at) b₂) where
+module _ (seen : Counters) (op : Operation) (b₂ : Bool) (two : Says notAbove (op .id) (op .deps .at) b₂) where
   above : (o : M.Operation) (y : Bool) → Means op o → b₂ ≡ y → notAbove o ≡ y
   above o y e q = sym (two o (sym (e .id)) (sym (e .deps))) ∙ q
 
-  pub judged-two : b₂ ≡ true → Judges T c seen op J.Counter
-  unfolding verdict
-  judged-two t D o S e val = rw (above o true e t)
+  pub forestalls-two : b₂ ≡ true → Forestalls seen op J.Counter
+  unfolding forestalled
+  forestalls-two t D o s e = rw (above o true e t)
 
   module _ (n₂ : b₂ ≡ false) (b₃ : Bool) (three : (o : M.Operation) → o .id ≡ op .id → b₃ ≡ repeated (seen .at) o) where
-    again : (D : Document) (o : M.Operation) (y : Bool) → Stores T c (seen .at) D → Means op o → b₃ ≡ y → repeated (D .seen) o ≡ y
-    again D o y S e q = ap (λ s. repeated s o) (sym (S .counters)) ∙ (sym (three o (sym (e .id))) ∙ q)
+    again : (D : Document) (o : M.Operation) (y : Bool) → seen .at ≡ D .seen → Means op o → b₃ ≡ y → repeated (D .seen) o ≡ y
+    again D o y s e q = ap (λ s. repeated s o) (sym s) ∙ (sym (three o (sym (e .id))) ∙ q)
 
-    pub judged-three : b₃ ≡ true → Judges T c seen op J.Repeat
-    unfolding verdict
-    judged-three t D o S e val = rw (above o false e n₂, again D o true S e t)
+    pub forestalls-three : b₃ ≡ true → Forestalls seen op J.Repeat
+    unfolding forestalled
+    forestalls-three t D o s e = rw (above o false e n₂, again D o true s e t)
 
     module _ (n₃ : b₃ ≡ false) (b₄ : Bool) (four′ : Says (crossed (seen .at)) (op .id) (op .deps .at) b₄) where
-      across : (D : Document) (o : M.Operation) (y : Bool) → Stores T c (seen .at) D → Means op o → b₄ ≡ y → crossed (D .seen) o ≡ y
-      across D o y S e q = ap (λ s. crossed s o) (sym (S .counters)) ∙ (sym (four′ o (sym (e .id)) (sym (e .deps))) ∙ q)
+      across : (D : Document) (o : M.Operation) (y : Bool) → seen .at ≡ D .seen → Means op o → b₄ ≡ y → crossed (D .seen) o ≡ y
+      across D o y s e q = ap (λ s. crossed s o) (sym s) ∙ (sym (four′ o (sym (e .id)) (sym (e .deps))) ∙ q)
 
-      pub judged-four : b₄ ≡ true → Judges T c seen op J.OwnDeps
-      unfolding verdict
-      judged-four t D o S e val = rw (above o false e n₂, again D o false S e n₃, across D o true S e t)
+      pub forestalls-four : b₄ ≡ true → Forestalls seen op J.OwnDeps
+      unfolding forestalled
+      forestalls-four t D o s e = rw (above o false e n₂, again D o false s e n₃, across D o true s e t)
 
       module _ (n₄ : b₄ ≡ false) (b₅ : Bool) (five : b₅ ≡ ready (seen .at) (op .id) (op .deps .at)) where
-        in-time : (D : Document) (o : M.Operation) (y : Bool) → Stores T c (seen .at) D → Means op o → b₅ ≡ y → readyIn D o ≡ y
-        in-time D o y S e q = rw (← S .counters, ← e .id, ← e .deps) (sym five ∙ q)
+        in-time : (D : Document) (o : M.Operation) (y : Bool) → seen .at ≡ D .seen → Means op o → b₅ ≡ y → readyIn D o ≡ y
+        in-time D o y s e q = rw (← s, ← e .id, ← e .deps) (sym five ∙ q)
 
-        pub judged-early : b₅ ≡ false → Judges T c seen op J.Early
-        unfolding verdict
-        judged-early t D o S e val =
-            rw (above o false e n₂, again D o false S e n₃, across D o false S e n₄, in-time D o false S e t)
+        pub forestalls-none : b₅ ≡ true → Forestalls seen op J.Taken
+        unfolding forestalled
+        forestalls-none t D o s e =
+            rw (above o false e n₂, again D o false s e n₃, across D o false s e n₄, in-time D o true s e t)
 
-        pub judged-ready : (r : Judged) → b₅ ≡ true → JudgesReady T c op r → Judges T c seen op r
-        unfolding verdict
-        judged-ready r t G D o S e val =
-            rw (above o false e n₂, again D o false S e n₃, across D o false S e n₄, in-time D o true S e t)
-            (G D o (here-stores T c (seen .at) D S) e val (newer D o (again D o false S e n₃)))
+        pub forestalls-early : b₅ ≡ false → Forestalls seen op J.Early
+        unfolding forestalled
+        forestalls-early t D o s e =
+            rw (above o false e n₂, again D o false s e n₃, across D o false s e n₄, in-time D o false s e t)
+
+-- The whole verdict.
+
+stopped : (a b c d : Bool) (x : Judged) → isTaken (cond a J.Counter (cond b J.Repeat (cond c J.OwnDeps (cond d J.Taken J.Early)))) ≡ false
+    → cond a J.Counter (cond b J.Repeat (cond c J.OwnDeps (cond d x J.Early)))
+    ≡ cond a J.Counter (cond b J.Repeat (cond c J.OwnDeps (cond d J.Taken J.Early)))
+stopped true b c d x t = refl
+stopped false true c d x t = refl
+stopped false false true d x t = refl
+stopped false false false true x t = absurd (true≢false t)
+stopped false false false false x t = refl
+
+goes : (a b c d : Bool) (x : Judged) → isTaken (cond a J.Counter (cond b J.Repeat (cond c J.OwnDeps (cond d J.Taken J.Early)))) ≡ true
+    → (b ≡ false) × (cond a J.Counter (cond b J.Repeat (cond c J.OwnDeps (cond d x J.Early))) ≡ x)
+goes true b c d x t = absurd (true≢false (sym t))
+goes false true c d x t = absurd (true≢false (sym t))
+goes false false true d x t = absurd (true≢false (sym t))
+goes false false false true x t = (refl, refl)
+goes false false false false x t = absurd (true≢false (sym t))
+
+module _ (T : Tables) (c : Counts) (seen : Counters) (op : Operation) (a : Judged) (F : Forestalls seen op a) where
+  pub judges-stopped : isTaken a ≡ false → Judges T c seen op a
+  unfolding verdict forestalled
+  judges-stopped t D o S e val =
+      let q = F D o (S .counters) e in
+      q ∙ sym (stopped (notAbove o) (repeated (D .seen) o) (crossed (D .seen) o) (readyIn D o) (readyVerdict o D) (ap isTaken (sym q) ∙ t))
+
+  pub judges-ready : (s : Stop) (r : Judged) → isTaken a ≡ true → Tops T c (op .way .keys) s → JudgesReady T c s op r → Judges T c seen op r
+  unfolding verdict forestalled
+  judges-ready s r t P G D o S e val =
+      let S′ = here-stores T c (seen .at) D S in
+      let g = goes (notAbove o) (repeated (D .seen) o) (crossed (D .seen) o) (readyIn D o) (readyVerdict o D)
+      (ap isTaken (sym (F D o (S .counters) e)) ∙ t) in
+      G D o S′ e val (newer D o (g .0)) (P D o S′ (e .edit .keys) val) ∙ sym (g .1)
 
 -- An operation that is taken.
 
@@ -176,13 +215,15 @@ unfolding raised
 raised-seen s o val = rw (le-leb (counterOf (o .id)) 4294967295 (val .id .high))
 
 pub takes-on : (T : Tables) (c : Counts) (seen : Counters) (op : Operation) (U : Tables) (e : Counts) (after : Counters)
-    → CarriesOut T c op e U → after .at ≡ raised (seen .at) (op .id) → TakesOn T c seen op (record { counts = e; seen = after }) U
+    → (s : Stop) → Tops T c (op .way .keys) s → CarriesOut T c s op e U → after .at ≡ raised (seen .at) (op .id)
+    → TakesOn T c seen op (record { counts = e; seen = after }) U
 unfolding apply
-takes-on T c seen op U e after C r D o S m val y =
+takes-on T c seen op U e after s P C r D o S m val y =
     let k = verdict-taken o D y in
     let n = newer D o (k .new) in
+    let S′ = here-stores T c (seen .at) D S in
     record {
-      rows = C D o (here-stores T c (seen .at) D S) m val n;
+      rows = C D o S′ m val n (P D o S′ (m .edit .keys) val);
       counters = r ∙ (ap₂ raised (S .counters) (m .id) ∙ raised-seen (D .seen) o val);
       sound = sound-apply o D val n (S .sound);
       limits = k .room;

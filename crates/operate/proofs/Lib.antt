@@ -1,5 +1,6 @@
 pub mod Words
 pub mod Rooms
+pub mod Tops
 pub mod Verdicts
 pub mod Carrying
 pub mod Determined

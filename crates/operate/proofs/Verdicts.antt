@@ -15,6 +15,8 @@ use Rattle.meaning.specs.Valid.{ValidOperation}
 use Rattle.meaning.specs.Ways.{intoMap, steps}
 use Rattle.meaning.specs.Ways as M
 use Rattle.meaning.specs.Sheet.{rowsOf}
+use Rattle.rows.specs.Balanced.{passed-rest}
+use Rattle.rows.specs.Blocks.{passed, rest, keyBelow, over}
 use Rattle.rows.specs.Locate.{ledRows, astray-rows}
 use Rattle.rows.specs.Counting.{change}
 use Rattle.rows.specs.Within.{underChange, change-under, astray-under}
@@ -22,25 +24,21 @@ use Rattle.message.specs.Means.{wayWords, deedOf, pad, Means}
 use Rattle.message.specs.declared.Deed.{Deed}
 use Rattle.message.specs.declared.Operation.{Operation}
 use Rattle.tables.specs.Words.{Tables}
-use Rattle.tables.specs.Finds.{after}
-use Rattle.tables.specs.Standing.{first, behind}
-use Rattle.tables.specs.Holding.{four}
+use Rattle.tables.specs.Holding.{Holds, four}
 use Rattle.tables.specs.declared.Counts.{Counts}
+use Rattle.tables.specs.declared.Stop.{Stop}
 use Rattle.weigh.specs.Weighs.{Weighs, Weighed}
 use Rattle.weigh.specs.declared.Weight.{Weight}
-use Rattle.operate.specs.Judging.{Small, hasRoom, goesDown, readyVerdict, Stores, Newer, Parts, JudgesWay, JudgesReady}
+use Rattle.operate.specs.Judging.{Small, hasRoom, goesDown, readyVerdict, topStop, Stores, Newer, Parts, JudgesWay, JudgesReady}
 use Rattle.operate.specs.declared.Judged.{Judged}
 use Rattle.operate.specs.declared.Judged.the-variants as J
 use Rattle.operate.proofs.Words.{take-pad, words-count, down-pad}
 use Rattle.operate.proofs.Rooms.{weight-small, room-is}
+use Rattle.operate.proofs.Tops.{led-top, change-top}
 
 -- the whole way, from the root
 abbrev pub whole : M.Operation → M.Way
 whole o = intoMap (o .top) (o .way)
-
-pub first-behind : first ≡ behind []
-unfolding after
-first-behind = refl
 
 pad-long : (n : ℕ) (w : List ℕ) → length (pad n w) ≡ n
 unfolding pad
@@ -80,22 +78,24 @@ module _ (i : ℕ) (d : List ℕ) (deed : Deed) (ks : List ℕ) (n : ℕ) (o : M
 
 module _ (h k m v : List ℕ) (c : Counts) (i : ℕ) (d : List ℕ) (deed : Deed) (ks : List ℕ) (n : ℕ) (way : List ℕ)
     (part : way ≡ take (3 * n) ks)
-    (x : Weight) (W : Weighed h k m v (c .rows) (record { row = 0; mark = 0; value = 0 }) 1 true d deed way x) where
+    (from : Stop) (x : Weight) (W : Weighed h k m v (c .rows) from 1 true d deed way x) where
   module _ (D : Document) (o : M.Operation) (S : Stores (four h k m v) c (D .seen) D) (e : Parts i d deed ks n o)
-      (val : ValidOperation o) where
+      (val : ValidOperation o) (f : from ≡ topStop o D) where
     weighed : Weighs (not (astray D o)) (change o (rowsOf D)) x
     unfolding steps
     weighed =
-        let w = W .is c [] (rowsOf D) (whole o) (S .rows) refl (λ t. first-behind) (part ∙ way-part i d deed ks n o e val)
-        (deed-whole i d deed ks n o e val)
-        (val .edit .first, val .edit .rest) (omega (arith, val .edit .reach)) in
-        let a : ledRows d 1 (whole o) (rowsOf D) ≡ not (astray D o) =
-        ap (λ d. ledRows d 1 (whole o) (rowsOf D)) (e .deps)
-        ∙ (twice (ledRows (o .deps) 1 (whole o) (rowsOf D)) ∙ ap not (sym (astray-under o (rowsOf D)) ∙ astray-rows o D)) in
-        let b : underChange d 1 (whole o) (rowsOf D) ≡ change o (rowsOf D) =
-        ap (λ d. underChange d 1 (whole o) (rowsOf D)) (e .deps) ∙ sym (change-under o (rowsOf D)) in
-        subst (λ l. Weighs l (change o (rowsOf D)) x) a
-        (subst (λ q. Weighs (ledRows d 1 (whole o) (rowsOf D)) q x) b w)
+        let p = over 1 (keyBelow (o .top)) in
+        let R = rest p (rowsOf D) in
+        let H = subst (Holds (four h k m v) c) (sym (passed-rest p (rowsOf D))) (S .rows) in
+        let w = W .is c (passed p (rowsOf D)) R (whole o) H refl (λ t. f) (part ∙ way-part i d deed ks n o e val)
+        (deed-whole i d deed ks n o e val) (val .edit .first, val .edit .rest) (omega (arith, val .edit .reach)) in
+        let a : ledRows d 1 (whole o) R ≡ not (astray D o) =
+        led-top 1 (o .top) (o .way) (rowsOf D) d ∙ (ap (λ d. ledRows d 1 (whole o) (rowsOf D)) (e .deps)
+        ∙ (twice (ledRows (o .deps) 1 (whole o) (rowsOf D)) ∙ ap not (sym (astray-under o (rowsOf D)) ∙ astray-rows o D))) in
+        let b : underChange d 1 (whole o) R ≡ change o (rowsOf D) =
+        change-top 1 (o .top) (o .way) (rowsOf D) d
+        ∙ (ap (λ d. underChange d 1 (whole o) (rowsOf D)) (e .deps) ∙ sym (change-under o (rowsOf D))) in
+        subst (λ l. Weighs l (change o (rowsOf D)) x) a (subst (λ q. Weighs (ledRows d 1 (whole o) R) q x) b w)
       where
         twice : (b : Bool) → b ≡ not (not b)
         twice true = refl
@@ -117,12 +117,12 @@ module _ (h k m v : List ℕ) (c : Counts) (i : ℕ) (d : List ℕ) (deed : Deed
         back true b e = ap not e
         back false b e = ap not e
 
-  pub judge-eight : x .led ≡ false → JudgesWay (four h k m v) c i d deed ks n J.NoElement
+  pub judge-eight : x .led ≡ false → JudgesWay (four h k m v) c from i d deed ks n J.NoElement
   unfolding readyVerdict
-  judge-eight t D o S e val y = rw (stray D o S e val false t)
+  judge-eight t D o S e val y f = rw (stray D o S e val f false t)
 
-  pub judge-large : (Small c x → ⊥) → (r : Judged) → JudgesWay (four h k m v) c i d deed ks n r
-  judge-large t r D o S e val y = absurd (t (small D o S e val y))
+  pub judge-large : (Small c x → ⊥) → (r : Judged) → JudgesWay (four h k m v) c from i d deed ks n r
+  judge-large t r D o S e val y f = absurd (t (small D o S e val f y))
 
   module _ (hi len : ℕ) (a : hi ≡ getD ks (3 * n - 3) 0) (b : len ≡ getD ks (3 * n - 1) 0)
       (t : x .led ≡ true) where
@@ -131,36 +131,36 @@ module _ (h k m v : List ℕ) (c : Counts) (i : ℕ) (d : List ℕ) (deed : Deed
         → downward o ≡ y
     down D o e val y g = sym (down-is i d deed ks n o e val) ∙ (rw (← a, ← b) g)
 
-    pub judge-nine : goesDown deed i hi len ≡ true → JudgesWay (four h k m v) c i d deed ks n J.NotSmaller
+    pub judge-nine : goesDown deed i hi len ≡ true → JudgesWay (four h k m v) c from i d deed ks n J.NotSmaller
     unfolding readyVerdict
-    judge-nine g D o S e val y = rw (stray D o S e val true t, down D o e val true g)
+    judge-nine g D o S e val y f = rw (stray D o S e val f true t, down D o e val true g)
 
-    pub judge-ten : goesDown deed i hi len ≡ false → hasRoom c x ≡ false → JudgesWay (four h k m v) c i d deed ks n J.NoRoom
+    pub judge-ten : goesDown deed i hi len ≡ false → hasRoom c x ≡ false → JudgesWay (four h k m v) c from i d deed ks n J.NoRoom
     unfolding readyVerdict
-    judge-ten g r D o S e val y =
-        rw (stray D o S e val true t, down D o e val false g, sym (room D o S e val y) ∙ r)
+    judge-ten g r D o S e val y f =
+        rw (stray D o S e val f true t, down D o e val false g, sym (room D o S e val f y) ∙ r)
 
-    pub judge-taken : goesDown deed i hi len ≡ false → hasRoom c x ≡ true → JudgesWay (four h k m v) c i d deed ks n J.Taken
+    pub judge-taken : goesDown deed i hi len ≡ false → hasRoom c x ≡ true → JudgesWay (four h k m v) c from i d deed ks n J.Taken
     unfolding readyVerdict
-    judge-taken g r D o S e val y =
-        rw (stray D o S e val true t, down D o e val false g, sym (room D o S e val y) ∙ r)
+    judge-taken g r D o S e val y f =
+        rw (stray D o S e val f true t, down D o e val false g, sym (room D o S e val f y) ∙ r)
 
 -- a way has one to eight keys
-module _ (T : Tables) (c : Counts) (i : ℕ) (d : List ℕ) (deed : Deed) (ks : List ℕ) (n : ℕ) (r : Judged) where
-  pub judge-long : 8 < n → JudgesWay T c i d deed ks n r
-  judge-long l D o S e val y =
+module _ (T : Tables) (c : Counts) (from : Stop) (i : ℕ) (d : List ℕ) (deed : Deed) (ks : List ℕ) (n : ℕ) (r : Judged) where
+  pub judge-long : 8 < n → JudgesWay T c from i d deed ks n r
+  judge-long l D o S e val y f =
       absurd (omega (arith, l, steps-whole i d deed ks n o e val .0, steps-whole i d deed ks n o e val .1))
 
-  pub judge-none : n ≡ 0 → JudgesWay T c i d deed ks n r
-  judge-none l D o S e val y = absurd (omega (arith, l, e .count))
+  pub judge-none : n ≡ 0 → JudgesWay T c from i d deed ks n r
+  judge-none l D o S e val y f = absurd (omega (arith, l, e .count))
 
-  pub judge-cut : length ks < 3 * n → JudgesWay T c i d deed ks n r
-  judge-cut l D o S e val y = absurd (cut-short i d deed ks n o e val l)
+  pub judge-cut : length ks < 3 * n → JudgesWay T c from i d deed ks n r
+  judge-cut l D o S e val y f = absurd (cut-short i d deed ks n o e val l)
 
 -- an operation's parts
 pub parts-of : (op : Operation) (o : M.Operation) → Means op o → Parts (op .id) (op .deps .at) (op .deed) (op .way .keys) (op .way .n) o
 parts-of op o e = record { id = e .id; deps = e .deps; deed-is = e .edit .deed; keys = e .edit .keys; count = e .edit .count }
 
-pub judge-parts : (T : Tables) (c : Counts) (op : Operation) (r : Judged)
-    → JudgesWay T c (op .id) (op .deps .at) (op .deed) (op .way .keys) (op .way .n) r → JudgesReady T c op r
-judge-parts T c op r J D o S e val y = J D o S (parts-of op o e) val y
+pub judge-parts : (T : Tables) (c : Counts) (s : Stop) (op : Operation) (r : Judged)
+    → JudgesWay T c s (op .id) (op .deps .at) (op .deed) (op .way .keys) (op .way .n) r → JudgesReady T c s op r
+judge-parts T c s op r J D o S e val y f = J D o S (parts-of op o e) val y f

@@ -18,13 +18,16 @@ use Rattle.meaning.specs.Ways.{steps}
 use Rattle.meaning.specs.Ways as M
 use Rattle.meaning.specs.Sheet.{rowsOf}
 use Rattle.meaning.specs.declared.Counters.{Counters}
+use Rattle.rows.specs.Blocks.{passed, keyBelow, over}
 use Rattle.readers.specs.Words.{keyWords}
 use Rattle.message.specs.Means.{wayWords, deedOf, deedWords, pad, Means}
 use Rattle.message.specs.declared.Deed.{Deed}
 use Rattle.message.specs.declared.Operation.{Operation}
 use Rattle.tables.specs.Words.{Tables}
-use Rattle.tables.specs.Holding.{Holds}
+use Rattle.tables.specs.Holding.{Holds, four}
+use Rattle.tables.specs.Standing.{behind}
 use Rattle.tables.specs.declared.Counts.{Counts}
+use Rattle.tables.specs.declared.Stop.{Stop}
 use Rattle.weigh.specs.declared.Weight.{Weight}
 use Rattle.apply.specs.Doing.{isInsert}
 use Rattle.apply.specs.declared.Act.{Act}
@@ -70,6 +73,12 @@ unfoldable pub readyVerdict : M.Operation → Document → Judged
 readyVerdict o D =
     cond (astray D o) J.NoElement (cond (downward o) J.NotSmaller (cond (fits (apply o D)) J.Taken J.NoRoom))
 
+-- 2, 3, 4, and whether it comes too early; an operation that none of them stops goes on
+unfoldable pub forestalled : M.Operation → Document → Judged
+forestalled o D =
+    cond (notAbove o) J.Counter
+    (cond (repeated (D .seen) o) J.Repeat (cond (crossed (D .seen) o) J.OwnDeps (cond (readyIn D o) J.Taken J.Early)))
+
 unfoldable pub verdict : M.Operation → Document → Judged
 verdict o D =
     cond (notAbove o) J.Counter
@@ -96,26 +105,47 @@ pub record Parts (i : ℕ) (d : List ℕ) (deed : Deed) (ks : List ℕ) (n : ℕ
   pub keys : ks ≡ pad 24 (keyWords (o .top) ++ wayWords (o .way))
   pub count : n ≡ suc (steps (o .way))
 
-abbrev pub JudgesWay : Tables → Counts → ℕ → List ℕ → Deed → List ℕ → ℕ → Judged → Type 0
-JudgesWay T c i d deed ks n r =
-    (D : Document) (o : M.Operation) → Stores T c (D .seen) D → Parts i d deed ks n o → ValidOperation o → Newer D o
+-- where the search for the way's first key stops, among the rows of the document
+abbrev pub topStop : M.Operation → Document → Stop
+topStop o D = behind (passed (over 1 (keyBelow (o .top))) (rowsOf D))
+
+abbrev pub Tops : Tables → Counts → List ℕ → Stop → Type 0
+Tops T c ks s =
+    (D : Document) (o : M.Operation) → Stores T c (D .seen) D → ks ≡ pad 24 (keyWords (o .top) ++ wayWords (o .way)) → ValidOperation o
+    → s ≡ topStop o D
+
+-- the same of tables with any marks and values
+abbrev pub TopsIn : List ℕ → List ℕ → ℕ → List ℕ → Stop → Type 0
+TopsIn h k rows ks s = (m v : List ℕ) (c : Counts) → rows ≡ c .rows → Tops (four h k m v) c ks s
+
+abbrev pub Forestalls : Counters → Operation → Judged → Type 0
+Forestalls seen op r = (D : Document) (o : M.Operation) → seen .at ≡ D .seen → Means op o → r ≡ forestalled o D
+
+-- with the stop s, from which the way is looked for
+
+abbrev pub JudgesWay : Tables → Counts → Stop → ℕ → List ℕ → Deed → List ℕ → ℕ → Judged → Type 0
+JudgesWay T c s i d deed ks n r =
+    (D : Document) (o : M.Operation) → Stores T c (D .seen) D → Parts i d deed ks n o → ValidOperation o → Newer D o → s ≡ topStop o D
     → r ≡ readyVerdict o D
 
-abbrev pub JudgesReady : Tables → Counts → Operation → Judged → Type 0
-JudgesReady T c op r =
-    (D : Document) (o : M.Operation) → Stores T c (D .seen) D → Means op o → ValidOperation o → Newer D o → r ≡ readyVerdict o D
+abbrev pub JudgesReady : Tables → Counts → Stop → Operation → Judged → Type 0
+JudgesReady T c s op r =
+    (D : Document) (o : M.Operation) → Stores T c (D .seen) D → Means op o → ValidOperation o → Newer D o → s ≡ topStop o D
+    → r ≡ readyVerdict o D
 
+abbrev pub CarriesWay : Tables → Counts → Stop → Act → List ℕ → ℕ → Counts → Tables → Type 0
+CarriesWay T c s a ks n e U =
+    (D : Document) (o : M.Operation) → Stores T c (D .seen) D → Parts (a .id) (a .deps .at) (a .deed) ks n o
+    → a .words ≡ deedWords (o .way) → ValidOperation o → Newer D o → s ≡ topStop o D → Holds U e (rowsOf (apply o D))
+
+abbrev pub CarriesOut : Tables → Counts → Stop → Operation → Counts → Tables → Type 0
+CarriesOut T c s op e U =
+    (D : Document) (o : M.Operation) → Stores T c (D .seen) D → Means op o → ValidOperation o → Newer D o → s ≡ topStop o D
+    → Holds U e (rowsOf (apply o D))
+
+-- the whole judgement
 abbrev pub Judges : Tables → Counts → Counters → Operation → Judged → Type 0
 Judges T c seen op r = (D : Document) (o : M.Operation) → Stores T c (seen .at) D → Means op o → ValidOperation o → r ≡ verdict o D
-
-abbrev pub CarriesWay : Tables → Counts → Act → List ℕ → ℕ → Counts → Tables → Type 0
-CarriesWay T c a ks n e U =
-    (D : Document) (o : M.Operation) → Stores T c (D .seen) D → Parts (a .id) (a .deps .at) (a .deed) ks n o
-    → a .words ≡ deedWords (o .way) → ValidOperation o → Newer D o → Holds U e (rowsOf (apply o D))
-
-abbrev pub CarriesOut : Tables → Counts → Operation → Counts → Tables → Type 0
-CarriesOut T c op e U =
-    (D : Document) (o : M.Operation) → Stores T c (D .seen) D → Means op o → ValidOperation o → Newer D o → Holds U e (rowsOf (apply o D))
 
 -- an operation that may be taken leaves the document that it makes
 abbrev pub TakesOn : Tables → Counts → Counters → Operation → Later → Tables → Type 0

@@ -12,7 +12,7 @@ ghost use lib.ListN.{length, take};
 ghost use Rattle.tables.specs.Holding.{four};
 ghost use Rattle.tables.specs.Seek.{holdsIf};
 ghost use Rattle.operate.specs.Judging.{isTaken, Small, hasRoom, goesDown};
-ghost use Rattle.operate.specs.Judging.{JudgesWay, JudgesReady, Judges, CarriesWay, CarriesOut, TakesOn, Applies};
+ghost use Rattle.operate.specs.Judging.{TopsIn, Forestalls, JudgesWay, JudgesReady, Judges, CarriesWay, CarriesOut, TakesOn, Applies};
 
 // What an operation comes to: it is taken; it comes too early; or the refusals of document 01, by name.
 pub enum Judged {
@@ -103,14 +103,15 @@ fn judge_way(
     marks: &[u64],
     values: &[u64],
     c: Counts,
+    top: Stop,
     id: u64,
     deps: Counters,
     deed: Deed,
     words: &[u64],
     n: usize,
 ) -> Judged
-    ensures { λ r. ⌜ JudgesWay (four (now (heads .entry)) (now (keys .entry)) (now (marks .entry)) (now (values .entry))) c id (deps .at)
-        deed (now (words .entry)) n r ⌝ }
+    ensures { λ r. ⌜ JudgesWay (four (now (heads .entry)) (now (keys .entry)) (now (marks .entry)) (now (values .entry))) c top id
+        (deps .at) deed (now (words .entry)) n r ⌝ }
 {
     if n > 8 {
         return Judged::NoElement;
@@ -128,11 +129,7 @@ fn judge_way(
         marks,
         values,
         c.rows,
-        Stop {
-            row: 0,
-            mark: 0,
-            value: 0,
-        },
+        top,
         1,
         true,
         deps,
@@ -160,9 +157,10 @@ fn judge_ready(
     marks: &[u64],
     values: &[u64],
     c: Counts,
+    top: Stop,
     op: Operation,
 ) -> Judged
-    ensures { λ r. ⌜ JudgesReady (four (now (heads .entry)) (now (keys .entry)) (now (marks .entry)) (now (values .entry))) c op r ⌝ }
+    ensures { λ r. ⌜ JudgesReady (four (now (heads .entry)) (now (keys .entry)) (now (marks .entry)) (now (values .entry))) c top op r ⌝ }
 {
     let way = op.way;
     let words = way.keys;
@@ -174,12 +172,49 @@ fn judge_ready(
         marks,
         values,
         c,
+        top,
         op.id,
         deps,
         deed,
         &words,
         way.n,
     )
+}
+
+// 2, 3, 4, and whether it comes too early.
+fn forestall(seen: Counters, op: Operation) -> Judged
+    ensures { λ r. ⌜ Forestalls seen op r ⌝ }
+{
+    let id = op.id;
+    let deps = op.deps;
+    if counters::not_above(id, deps) {
+        return Judged::Counter;
+    }
+    if counters::repeated(seen, id) {
+        return Judged::Repeat;
+    }
+    if counters::crossed(seen, id, deps) {
+        return Judged::OwnDeps;
+    }
+    if counters::ready(seen, id, deps) {
+        return Judged::Taken;
+    }
+    Judged::Early
+}
+
+// Where the search for the way's first key stops: it is the longest, and made once for judging and carrying out.
+fn top_of(heads: &[u64], keys: &[u64], rows: usize, op: Operation) -> Stop
+    ensures { λ r. ⌜ TopsIn (now (heads .entry)) (now (keys .entry)) rows (op .way .keys) r ⌝ }
+{
+    let way = op.way;
+    let words = way.keys;
+    let first = Stop {
+        row: 0,
+        mark: 0,
+        value: 0,
+    };
+    let w = tables::want_of(1, words[0], words[1], words[2]);
+    tables::find(heads, keys, rows, first, w)
 }
 
 // 2, 3, 4; then, if it is ready, 8, 9, 10.
@@ -194,21 +229,12 @@ pub fn judge(
 ) -> Judged
     ensures { λ r. ⌜ Judges (four (now (heads .entry)) (now (keys .entry)) (now (marks .entry)) (now (values .entry))) c seen op r ⌝ }
 {
-    let id = op.id;
-    let deps = op.deps;
-    if counters::not_above(id, deps) {
-        return Judged::Counter;
+    let early = forestall(seen, op);
+    if is_taken(early) {
+        let top = top_of(heads, keys, c.rows, op);
+        return judge_ready(heads, keys, marks, values, c, top, op);
     }
-    if counters::repeated(seen, id) {
-        return Judged::Repeat;
-    }
-    if counters::crossed(seen, id, deps) {
-        return Judged::OwnDeps;
-    }
-    if !counters::ready(seen, id, deps) {
-        return Judged::Early;
-    }
-    judge_ready(heads, keys, marks, values, c, op)
+    early
 }
 
 // Carries out what o says; `words` are those of its way, of n keys.
@@ -218,11 +244,12 @@ fn carry_way(
     marks: &mut [u64],
     values: &mut [u64],
     c: Counts,
+    top: Stop,
     o: Act,
     words: &[u64],
     n: usize,
 ) -> Counts
-    ensures { λ e. ⌜ CarriesWay (four (now (heads .entry)) (now (keys .entry)) (now (marks .entry)) (now (values .entry))) c o
+    ensures { λ e. ⌜ CarriesWay (four (now (heads .entry)) (now (keys .entry)) (now (marks .entry)) (now (values .entry))) c top o
         (now (words .entry)) n e (four (now (heads .exit)) (now (keys .exit)) (now (marks .exit)) (now (values .exit))) ⌝ }
 {
     if n > 8 {
@@ -232,34 +259,21 @@ fn carry_way(
     if end > words.len() {
         return c;
     }
-    let e = apply::descend(
-        heads,
-        keys,
-        marks,
-        values,
-        c,
-        Stop {
-            row: 0,
-            mark: 0,
-            value: 0,
-        },
-        1,
-        o,
-        &words[..end],
-    );
+    let e = apply::descend(heads, keys, marks, values, c, top, 1, o, &words[..end]);
     e.counts
 }
 
 // Carries an operation out.
-pub fn carry_out(
+fn carry_out(
     heads: &mut [u64],
     keys: &mut [u64],
     marks: &mut [u64],
     values: &mut [u64],
     c: Counts,
+    top: Stop,
     op: Operation,
 ) -> Counts
-    ensures { λ e. ⌜ CarriesOut (four (now (heads .entry)) (now (keys .entry)) (now (marks .entry)) (now (values .entry))) c op e
+    ensures { λ e. ⌜ CarriesOut (four (now (heads .entry)) (now (keys .entry)) (now (marks .entry)) (now (values .entry))) c top op e
         (four (now (heads .exit)) (now (keys .exit)) (now (marks .exit)) (now (values .exit))) ⌝ }
 {
     let way = op.way;
@@ -273,7 +287,7 @@ pub fn carry_out(
         deed,
         words: parts,
     };
-    carry_way(heads, keys, marks, values, c, o, &words, way.n)
+    carry_way(heads, keys, marks, values, c, top, o, &words, way.n)
 }
 
 // Whether an operation is taken.
@@ -305,7 +319,8 @@ pub fn take(
     ensures { λ r. ⌜ TakesOn (four (now (heads .entry)) (now (keys .entry)) (now (marks .entry)) (now (values .entry))) c seen op r
         (four (now (heads .exit)) (now (keys .exit)) (now (marks .exit)) (now (values .exit))) ⌝ }
 {
-    let counts = carry_out(heads, keys, marks, values, c, op);
+    let top = top_of(heads, keys, c.rows, op);
+    let counts = carry_out(heads, keys, marks, values, c, top, op);
     let after = counters::raise(seen, op.id);
     Later {
         counts,
@@ -326,20 +341,28 @@ pub fn apply(
     ensures { λ r. ⌜ Applies (four (now (heads .entry)) (now (keys .entry)) (now (marks .entry)) (now (values .entry))) c seen op r
         (four (now (heads .exit)) (now (keys .exit)) (now (marks .exit)) (now (values .exit))) ⌝ }
 {
-    let answer = judge(heads, keys, marks, values, c, seen, op);
-    if is_taken(answer) {
-        let later = take(heads, keys, marks, values, c, seen, op);
-        let counts = later.counts;
-        let after = later.seen;
+    let early = forestall(seen, op);
+    if !is_taken(early) {
         return Outcome {
-            answer,
-            counts,
-            seen: after,
+            answer: early,
+            counts: c,
+            seen,
         };
     }
+    let top = top_of(heads, keys, c.rows, op);
+    let answer = judge_ready(heads, keys, marks, values, c, top, op);
+    if !is_taken(answer) {
+        return Outcome {
+            answer,
+            counts: c,
+            seen,
+        };
+    }
+    let counts = carry_out(heads, keys, marks, values, c, top, op);
+    let raised = counters::raise(seen, op.id);
     Outcome {
         answer,
-        counts: c,
-        seen,
+        counts,
+        seen: raised,
     }
 }

@@ -1,23 +1,34 @@
--- An operation is judged, and taken if it may be. Assumes nothing.
-use mathlib.Core.Path.{sym, _∙_}
-use Rattle.operate.proofs.Carrying.{applies-taken, applies-refused}
+-- An operation is judged, and taken if it may be.
+use mathlib.Core.Path.{refl, sym, _∙_}
+use borrow.Author.Tests.{not-true, not-false}
+use Rattle.operate.proofs.Carrying.{judges-stopped, judges-ready, takes-on, applies-refused, applies-taken}
 use borrow.Author.Needs.{needs}
 use Rattle.operate.proofs.apply.Statement.{statement}
 use Rattle.operate.proofs.apply.Tie as tie
-use Rattle.operate.proofs.apply.Reads as reads
-use Rattle.operate.proofs.apply.Lts as lts
-use Rattle.operate.proofs.is_taken.Reads as is-taken-reads
-use Rattle.operate.proofs.judge.Reads as judge-reads
-use Rattle.operate.proofs.take.Reads as take-reads
 
-judge-requires : tie.Need-judge-requires
-judge-requires c κs = search needs
+forestall-requires : tie.Need-forestall-requires
+forestall-requires c κs = search needs
 
 is-taken-requires : tie.Need-is-taken-requires
 is-taken-requires c κs = search needs
 
-take-requires : tie.Need-take-requires
-take-requires c κs = search needs
+returns : tie.Need-returns
+returns c =
+    let at-is-taken = c .before in
+    let at-forestall = at-is-taken .before in
+    let at-start = at-forestall .before .before .before .before .before in
+    let no = sym (at-is-taken .is-taken .ensures) ∙ not-true _ (c .if1 .taken) in
+    applies-refused _ _ _ (at-start .args .op) _
+    (judges-stopped _ _ _ (at-start .args .op) _ (at-forestall .forestall .ensures) no) no
+
+top-of-requires : tie.Need-top-of-requires
+top-of-requires c κs = search needs
+
+judge-ready-requires : tie.Need-judge-ready-requires
+judge-ready-requires c κs = search needs
+
+is-taken-requires-2 : tie.Need-is-taken-requires-2
+is-taken-requires-2 c κs = search needs
 
 same-length : tie.Need-same-length
 same-length c = search needs
@@ -31,15 +42,24 @@ same-length-3 c = search needs
 same-length-4 : tie.Need-same-length-4
 same-length-4 c = search needs
 
-returns : tie.Need-returns
-returns c =
-    let at-take = c .before .before .before .before .before .before .before .before .before .before in
-    let at-if1 = at-take .before .before .before .before .before in
+returns-2 : tie.Need-returns-2
+returns-2 c =
+    let at-judge-ready = c .before .before in
+    let at-top-of = at-judge-ready .before .before .before .before .before in
+    let at-if1 = at-top-of .before .before .before in
     let at-is-taken = at-if1 .before in
-    let at-judge = at-is-taken .before in
-    let at-start = at-judge .before .before .before .before .before .before .before .before .before in
-    applies-taken _ _ _ (at-start .args .op) _ (at-judge .judge .ensures) _ (at-take .take .result)
-    (sym (at-is-taken .is-taken .ensures) ∙ at-if1 .if1 .taken) (at-take .take .ensures)
+    let at-forestall = at-is-taken .before in
+    let at-start = at-forestall .before .before .before .before .before in
+    applies-refused _ _ _ (at-start .args .op) _
+    (judges-ready _ _ _ (at-start .args .op) _ (at-forestall .forestall .ensures) _ _
+    (sym (at-is-taken .is-taken .ensures) ∙ not-false _ (at-if1 .if1 .left)) (at-top-of .top-of .ensures _ _ _ refl)
+    (at-judge-ready .judge-ready .ensures)) (sym (c .before .is-taken2 .ensures) ∙ not-true _ (c .if2 .taken))
+
+carry-out-requires : tie.Need-carry-out-requires
+carry-out-requires c κs = search needs
+
+raise-requires : tie.Need-raise-requires
+raise-requires c κs = search needs
 
 same-length-5 : tie.Need-same-length-5
 same-length-5 c = search needs
@@ -53,26 +73,43 @@ same-length-7 c = search needs
 same-length-8 : tie.Need-same-length-8
 same-length-8 c = search needs
 
-returns-2 : tie.Need-returns-2
-returns-2 c =
-    let at-judge = c .before .before in
-    let at-start = at-judge .before .before .before .before .before .before .before .before .before in
-    applies-refused _ _ _ (at-start .args .op) _ (at-judge .judge .ensures) (sym (c .before .is-taken .ensures) ∙ c .if1 .left)
+returns-3 : tie.Need-returns-3
+returns-3 c =
+    let at-carry-out = c .before .before .before .before .before .before .before .before .before in
+    let at-if2 = at-carry-out .before .before .before .before .before in
+    let at-is-taken2 = at-if2 .before in
+    let at-judge-ready = at-is-taken2 .before in
+    let at-top-of = at-judge-ready .before .before .before .before .before in
+    let at-if1 = at-top-of .before .before .before in
+    let at-is-taken = at-if1 .before in
+    let at-forestall = at-is-taken .before in
+    let at-start = at-forestall .before .before .before .before .before in
+    applies-taken _ _ _ (at-start .args .op) _
+    (judges-ready _ _ _ (at-start .args .op) _ (at-forestall .forestall .ensures) _ _
+    (sym (at-is-taken .is-taken .ensures) ∙ not-false _ (at-if1 .if1 .left)) (at-top-of .top-of .ensures _ _ _ refl)
+    (at-judge-ready .judge-ready .ensures)) _ _ (sym (at-is-taken2 .is-taken2 .ensures) ∙ not-false _ (at-if2 .if2 .left))
+    (takes-on _ _ _ (at-start .args .op) _ _ _ _ (at-top-of .top-of .ensures _ _ _ refl) (at-carry-out .carry-out .ensures)
+    (c .raise .ensures))
 
 pub apply-spec : {M : Type 1} → statement M
 apply-spec =
     tie.close
     (tie.spec
-    judge-requires
+    forestall-requires
     is-taken-requires
-    take-requires
+    returns
+    top-of-requires
+    judge-ready-requires
+    is-taken-requires-2
     same-length
     same-length-2
     same-length-3
     same-length-4
-    returns
+    returns-2
+    carry-out-requires
+    raise-requires
     same-length-5
     same-length-6
     same-length-7
     same-length-8
-    returns-2)
+    returns-3)

@@ -27,7 +27,7 @@ returns c =
     let at-carry-way = c .before .before .before .before .before .before .before .before in
     let at-start = at-carry-way .before .before .before .before .before
     .before .before .before .before .before .before .before .before .before in
-    carry-out _ _ _ _ (at-start .args .op) (at-carry-way .carry-way .ensures)
+    carry-out _ _ _ _ _ (at-start .args .op) (at-carry-way .carry-way .ensures)
 
 pub carry-out-spec : {M : Type 1} → statement M
 carry-out-spec =

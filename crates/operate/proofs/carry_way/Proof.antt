@@ -10,7 +10,7 @@ use Rattle.operate.proofs.carry_way.Tie as tie
 returns : tie.Need-returns
 returns c =
     let at-start = c .before .before .before .before .before .before in
-    carry-long _ _ (at-start .args .o) _ _ (omega arith)
+    carry-long _ _ _ (at-start .args .o) _ _ (omega arith)
 
 mul-end : tie.Need-mul-end
 mul-end c = omega arith
@@ -18,7 +18,7 @@ mul-end c = omega arith
 returns-2 : tie.Need-returns-2
 returns-2 c =
     let at-start = c .before .before .before .before .before .before .before in
-    carry-cut _ _ (at-start .args .o) _ _ (omega arith)
+    carry-cut _ _ _ (at-start .args .o) _ _ (omega arith)
 
 slice-aggregate-descend : tie.Need-slice-aggregate-descend
 slice-aggregate-descend c = sym (length-take-le _ _ (omega arith))
@@ -43,7 +43,7 @@ returns-3 c =
     let at-descend = c .before .before .before .before .before .before .before .before .before in
     let at-start = at-descend .before .before .before .before .before
     .before .before .before .before .before .before .before .before in
-    carry-way _ _ _ _ (at-start .args .o) _ _ _ _ refl (at-descend .descend .ensures)
+    carry-way _ _ _ _ _ (at-start .args .o) _ _ _ _ refl (at-descend .descend .ensures)
 
 pub carry-way-spec : {M : Type 1} → statement M
 carry-way-spec =

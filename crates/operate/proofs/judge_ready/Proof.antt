@@ -13,7 +13,7 @@ judge-way-requires c κs = search needs
 returns : tie.Need-returns
 returns c =
     let at-start = c .before .before .before .before .before .before .before .before .before in
-    judge-parts _ _ (at-start .args .op) _ (c .judge-way .ensures)
+    judge-parts _ _ _ (at-start .args .op) _ (c .judge-way .ensures)
 
 pub judge-ready-spec : {M : Type 1} → statement M
 judge-ready-spec = tie.close (tie.spec slice-aggregate-judge-way judge-way-requires returns)

@@ -11,16 +11,16 @@ use Rattle.operate.proofs.judge_way.Statement.{statement}
 use Rattle.operate.proofs.judge_way.Tie as tie
 
 returns : tie.Need-returns
-returns c = judge-long _ _ _ _ _ _ _ _ (omega arith)
+returns c = judge-long _ _ _ _ _ _ _ _ _ (omega arith)
 
 returns-2 : tie.Need-returns-2
-returns-2 c = judge-none _ _ _ _ _ _ _ _ (omega arith)
+returns-2 c = judge-none _ _ _ _ _ _ _ _ _ (omega arith)
 
 mul-end : tie.Need-mul-end
 mul-end c = omega arith
 
 returns-3 : tie.Need-returns-3
-returns-3 c = judge-cut _ _ _ _ _ _ _ _ (omega arith)
+returns-3 c = judge-cut _ _ _ _ _ _ _ _ _ (omega arith)
 
 slice-aggregate-weigh : tie.Need-slice-aggregate-weigh
 slice-aggregate-weigh c = sym (length-take-le _ _ (omega arith))
@@ -31,7 +31,7 @@ weigh-requires c κs = search needs
 returns-4 : tie.Need-returns-4
 returns-4 c =
     let at-weigh = c .before .before in
-    judge-eight _ _ _ _ _ _ _ _ _ _ _ refl (at-weigh .weigh .result) (at-weigh .weigh .ensures) (not-true _ (c .if4 .taken))
+    judge-eight _ _ _ _ _ _ _ _ _ _ _ refl _ (at-weigh .weigh .result) (at-weigh .weigh .ensures) (not-true _ (c .if4 .taken))
 
 sub-goes-down : tie.Need-sub-goes-down
 sub-goes-down c = omega arith
@@ -58,7 +58,7 @@ returns-5 : tie.Need-returns-5
 returns-5 c =
     let at-if4 = c .before .before .before .before in
     let at-weigh = at-if4 .before .before in
-    judge-nine _ _ _ _ _ _ _ _ _ _ _ refl (at-weigh .weigh .result) (at-weigh .weigh .ensures) _ _ refl refl
+    judge-nine _ _ _ _ _ _ _ _ _ _ _ refl _ (at-weigh .weigh .result) (at-weigh .weigh .ensures) _ _ refl refl
     (not-false _ (at-if4 .if4 .left)) (sym (c .before .goes-down .ensures) ∙ c .if5 .taken)
 
 is-small-requires : tie.Need-is-small-requires
@@ -67,7 +67,7 @@ is-small-requires c κs = search needs
 returns-6 : tie.Need-returns-6
 returns-6 c =
     let at-weigh = c .before .before .before .before .before .before .before .before in
-    judge-large _ _ _ _ _ _ _ _ _ _ _ refl (at-weigh .weigh .result) (at-weigh .weigh .ensures)
+    judge-large _ _ _ _ _ _ _ _ _ _ _ refl _ (at-weigh .weigh .result) (at-weigh .weigh .ensures)
     (no (Small _ _) _ (c .before .is-small .result) (not-true _ (c .if6 .taken)) (c .before .is-small .ensures)) _
 
 has-room-requires : tie.Need-has-room-requires
@@ -79,7 +79,7 @@ returns-7 c =
     let at-goes-down = at-if5 .before in
     let at-if4 = at-goes-down .before .before .before in
     let at-weigh = at-if4 .before .before in
-    judge-taken _ _ _ _ _ _ _ _ _ _ _ refl (at-weigh .weigh .result) (at-weigh .weigh .ensures) _ _ refl refl
+    judge-taken _ _ _ _ _ _ _ _ _ _ _ refl _ (at-weigh .weigh .result) (at-weigh .weigh .ensures) _ _ refl refl
     (not-false _ (at-if4 .if4 .left)) (sym (at-goes-down .goes-down .ensures) ∙ at-if5 .if5 .left)
     (sym (c .before .has-room .ensures) ∙ c .if7 .taken)
 
@@ -89,7 +89,7 @@ returns-8 c =
     let at-goes-down = at-if5 .before in
     let at-if4 = at-goes-down .before .before .before in
     let at-weigh = at-if4 .before .before in
-    judge-ten _ _ _ _ _ _ _ _ _ _ _ refl (at-weigh .weigh .result) (at-weigh .weigh .ensures) _ _ refl refl
+    judge-ten _ _ _ _ _ _ _ _ _ _ _ refl _ (at-weigh .weigh .result) (at-weigh .weigh .ensures) _ _ refl refl
     (not-false _ (at-if4 .if4 .left)) (sym (at-goes-down .goes-down .ensures) ∙ at-if5 .if5 .left)
     (sym (c .before .has-room .ensures) ∙ c .if7 .left)
 

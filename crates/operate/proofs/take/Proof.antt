@@ -1,12 +1,12 @@
--- `operate::take` meets its contract. Assumes nothing.
+-- An operation that was judged so is taken.
+use mathlib.Core.Path.{refl}
 use Rattle.operate.proofs.Carrying.{takes-on}
 use borrow.Author.Needs.{needs}
 use Rattle.operate.proofs.take.Statement.{statement}
 use Rattle.operate.proofs.take.Tie as tie
-use Rattle.operate.proofs.take.Reads as reads
-use Rattle.operate.proofs.take.Lts as lts
-use Rattle.counters.proofs.raise.Reads as raise-reads
-use Rattle.operate.proofs.carry_out.Reads as carry-out-reads
+
+top-of-requires : tie.Need-top-of-requires
+top-of-requires c κs = search needs
 
 carry-out-requires : tie.Need-carry-out-requires
 carry-out-requires c κs = search needs
@@ -29,13 +29,16 @@ same-length-4 c = search needs
 returns : tie.Need-returns
 returns c =
     let at-carry-out = c .before .before .before .before .before .before .before .before .before in
-    let at-start = at-carry-out .before .before .before .before .before .before .before .before .before in
-    takes-on _ _ _ (at-start .args .op) _ _ _ (at-carry-out .carry-out .ensures) (c .raise .ensures)
+    let at-top-of = at-carry-out .before .before .before .before .before in
+    let at-start = at-top-of .before .before .before .before .before .before .before in
+    takes-on _ _ _ (at-start .args .op) _ _ _ _ (at-top-of .top-of .ensures _ _ _ refl) (at-carry-out .carry-out .ensures)
+    (c .raise .ensures)
 
 pub take-spec : {M : Type 1} → statement M
 take-spec =
     tie.close
     (tie.spec
+    top-of-requires
     carry-out-requires
     raise-requires
     same-length

@@ -1,0 +1,81 @@
+-- 2, 3, 4 and whether it is ready.
+use borrow.Author.Needs.{needs}
+use Rattle.operate.proofs.Carrying.{forestalls-two, forestalls-three, forestalls-four, forestalls-none, forestalls-early}
+use Rattle.operate.proofs.forestall.Statement.{statement}
+use Rattle.operate.proofs.forestall.Tie as tie
+
+not-above-requires : tie.Need-not-above-requires
+not-above-requires c κs = search needs
+
+returns : tie.Need-returns
+returns c =
+    let at-not-above = c .before in
+    let at-start = at-not-above .before .before in
+    forestalls-two _ (at-start .args .op) _ (at-not-above .not-above .ensures) (c .if1 .taken)
+
+repeated-requires : tie.Need-repeated-requires
+repeated-requires c κs = search needs
+
+returns-2 : tie.Need-returns-2
+returns-2 c =
+    let at-if1 = c .before .before in
+    let at-not-above = at-if1 .before in
+    let at-start = at-not-above .before .before in
+    forestalls-three _ (at-start .args .op) _ (at-not-above .not-above .ensures) (at-if1 .if1 .left) _
+    (c .before .repeated .ensures) (c .if2 .taken)
+
+crossed-requires : tie.Need-crossed-requires
+crossed-requires c κs = search needs
+
+returns-3 : tie.Need-returns-3
+returns-3 c =
+    let at-if2 = c .before .before in
+    let at-repeated = at-if2 .before in
+    let at-if1 = at-repeated .before in
+    let at-not-above = at-if1 .before in
+    let at-start = at-not-above .before .before in
+    forestalls-four _ (at-start .args .op) _ (at-not-above .not-above .ensures) (at-if1 .if1 .left) _
+    (at-repeated .repeated .ensures) (at-if2 .if2 .left) _ (c .before .crossed .ensures) (c .if3 .taken)
+
+ready-requires : tie.Need-ready-requires
+ready-requires c κs = search needs
+
+returns-4 : tie.Need-returns-4
+returns-4 c =
+    let at-if3 = c .before .before in
+    let at-crossed = at-if3 .before in
+    let at-if2 = at-crossed .before in
+    let at-repeated = at-if2 .before in
+    let at-if1 = at-repeated .before in
+    let at-not-above = at-if1 .before in
+    let at-start = at-not-above .before .before in
+    forestalls-none _ (at-start .args .op) _ (at-not-above .not-above .ensures) (at-if1 .if1 .left) _
+    (at-repeated .repeated .ensures) (at-if2 .if2 .left) _ (at-crossed .crossed .ensures) (at-if3 .if3 .left) _
+    (c .before .ready .ensures) (c .if4 .taken)
+
+returns-5 : tie.Need-returns-5
+returns-5 c =
+    let at-if3 = c .before .before in
+    let at-crossed = at-if3 .before in
+    let at-if2 = at-crossed .before in
+    let at-repeated = at-if2 .before in
+    let at-if1 = at-repeated .before in
+    let at-not-above = at-if1 .before in
+    let at-start = at-not-above .before .before in
+    forestalls-early _ (at-start .args .op) _ (at-not-above .not-above .ensures) (at-if1 .if1 .left) _
+    (at-repeated .repeated .ensures) (at-if2 .if2 .left) _ (at-crossed .crossed .ensures) (at-if3 .if3 .left) _
+    (c .before .ready .ensures) (c .if4 .left)
+
+pub forestall-spec : {M : Type 1} → statement M
+forestall-spec =
+    tie.close
+    (tie.spec
+    not-above-requires
+    returns
+    repeated-requires
+    returns-2
+    crossed-requires
+    returns-3
+    ready-requires
+    returns-4
+    returns-5)
