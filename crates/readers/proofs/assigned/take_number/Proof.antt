@@ -1,4 +1,4 @@
--- `readers::take_number` meets its contract.
+-- `readers::assigned::take_number` meets its contract.
 -- Assumes nothing.
 use mathlib.Core.Path.{subst}
 use denote.Ref.{now}
@@ -7,8 +7,8 @@ use Rattle.meaning.specs.Ways.{plain}
 use Rattle.readers.specs.Reads.{integers, ReadsInteger}
 use Rattle.readers.proofs.Values.{nonNeg-value, neg-value, refusing}
 use borrow.Author.Needs.{needs}
-use Rattle.readers.proofs.take_number.Statement.{statement}
-use Rattle.readers.proofs.take_number.Tie as tie
+use Rattle.readers.proofs.assigned.take_number.Statement.{statement}
+use Rattle.readers.proofs.assigned.take_number.Tie as tie
 
 take-integer-requires : tie.Need-take-integer-requires
 take-integer-requires c κs = search needs

@@ -1,9 +1,9 @@
--- `readers::take_string` meets its contract.
+-- `readers::hex::take_string` meets its contract.
 -- Assumes nothing.
 use Rattle.readers.proofs.Taking.{string-read}
 use borrow.Author.Needs.{needs}
-use Rattle.readers.proofs.take_string.Statement.{statement}
-use Rattle.readers.proofs.take_string.Tie as tie
+use Rattle.readers.proofs.hex.take_string.Statement.{statement}
+use Rattle.readers.proofs.hex.take_string.Tie as tie
 
 take-hex-requires : tie.Need-take-hex-requires
 take-hex-requires c κs = search needs

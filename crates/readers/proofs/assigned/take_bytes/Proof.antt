@@ -1,9 +1,9 @@
--- `readers::take_bytes` meets its contract.
+-- `readers::assigned::take_bytes` meets its contract.
 -- Assumes nothing.
 use Rattle.readers.proofs.Values.{string-value}
 use borrow.Author.Needs.{needs}
-use Rattle.readers.proofs.take_bytes.Statement.{statement}
-use Rattle.readers.proofs.take_bytes.Tie as tie
+use Rattle.readers.proofs.assigned.take_bytes.Statement.{statement}
+use Rattle.readers.proofs.assigned.take_bytes.Tie as tie
 
 take-string-requires : tie.Need-take-string-requires
 take-string-requires c κs = search needs

@@ -1,4 +1,4 @@
--- `readers::take_word` meets its contract. The loop's invariant, `Part`: `len` bytes stand from a to n, `word` holds them, and `weight`
+-- `readers::hex::take_word` meets its contract. The loop's invariant, `Part`: `len` bytes stand from a to n, `word` holds them, and `weight`
 -- is what the
 -- next one weighs.
 -- Assumes nothing.
@@ -7,8 +7,8 @@ use native.Mathlib.Omega.{arith}
 use Rattle.readers.proofs.Hexes.{stops-at, stops-end, odd}
 use Rattle.readers.proofs.Taking.{Part, part-start, room, part-more, a-word}
 use borrow.Author.Needs.{needs}
-use Rattle.readers.proofs.take_word.Statement.{statement}
-use Rattle.readers.proofs.take_word.Tie as tie
+use Rattle.readers.proofs.hex.take_word.Statement.{statement}
+use Rattle.readers.proofs.hex.take_word.Tie as tie
 
 abbrev Inv-loop : tie.InvT-loop
 Inv-loop s a word₀ len₀ weight₀ n₀ word len weight n = Part s a word len weight n

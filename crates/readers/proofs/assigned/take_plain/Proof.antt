@@ -1,4 +1,4 @@
--- `readers::take_plain` meets its contract: the first letter decides.
+-- `readers::assigned::take_plain` meets its contract: the first letter decides.
 -- Assumes nothing.
 use mathlib.Core.Path.{refl}
 use mathlib.Core.Bool.{true, false}
@@ -10,8 +10,8 @@ use Rattle.readers.specs.Given.{givenOf}
 use Rattle.readers.proofs.Values.{answered, refusing, no-plain-end, is-null}
 use Rattle.readers.proofs.Values.{is-true, is-false, integer-given, string-given, no-letter}
 use borrow.Author.Needs.{needs}
-use Rattle.readers.proofs.take_plain.Statement.{statement}
-use Rattle.readers.proofs.take_plain.Tie as tie
+use Rattle.readers.proofs.assigned.take_plain.Statement.{statement}
+use Rattle.readers.proofs.assigned.take_plain.Tie as tie
 
 no-value-requires : tie.Need-no-value-requires
 no-value-requires c κs = search needs

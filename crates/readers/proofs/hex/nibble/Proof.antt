@@ -1,11 +1,11 @@
--- `readers::nibble` meets its contract.
+-- `readers::hex::nibble` meets its contract.
 -- Assumes nothing.
 use mathlib.Core.Path.{sym, ap, subst}
 use Rattle.readers.specs.Hex.{ReadsDigit}
 use Rattle.readers.proofs.Hexes.{decimal-digit, letter-digit, below-digits, between, above-letters}
 use borrow.Author.Needs.{needs}
-use Rattle.readers.proofs.nibble.Statement.{statement}
-use Rattle.readers.proofs.nibble.Tie as tie
+use Rattle.readers.proofs.hex.nibble.Statement.{statement}
+use Rattle.readers.proofs.hex.nibble.Tie as tie
 
 returns : tie.Need-returns
 returns c = below-digits _ (c .if1 .taken)

@@ -1,9 +1,9 @@
--- `readers::take_key` meets its contract.
+-- `readers::hex::take_key` meets its contract.
 -- Assumes nothing.
 use Rattle.readers.proofs.Taking.{key-read}
 use borrow.Author.Needs.{needs}
-use Rattle.readers.proofs.take_key.Statement.{statement}
-use Rattle.readers.proofs.take_key.Tie as tie
+use Rattle.readers.proofs.hex.take_key.Statement.{statement}
+use Rattle.readers.proofs.hex.take_key.Tie as tie
 
 take-hex-requires : tie.Need-take-hex-requires
 take-hex-requires c κs = search needs

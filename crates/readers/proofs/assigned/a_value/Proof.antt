@@ -1,9 +1,9 @@
--- `readers::a_value` meets its contract.
+-- `readers::assigned::a_value` meets its contract.
 -- Assumes nothing.
 use mathlib.Core.Path.{refl}
 use Rattle.readers.specs.Words.{pack, wordsOf}
-use Rattle.readers.proofs.a_value.Statement.{statement}
-use Rattle.readers.proofs.a_value.Tie as tie
+use Rattle.readers.proofs.assigned.a_value.Statement.{statement}
+use Rattle.readers.proofs.assigned.a_value.Tie as tie
 
 returns : tie.Need-returns
 unfolding wordsOf pack

@@ -1,4 +1,4 @@
--- `readers::take_hex` meets its contract. The loop's invariant, `Parts`: i full words stand from a to n.
+-- `readers::hex::take_hex` meets its contract. The loop's invariant, `Parts`: i full words stand from a to n.
 -- Assumes nothing.
 use Prim.Native.Nat.{_-_, _≤_}
 use native.Mathlib.Omega.{arith}
@@ -6,8 +6,8 @@ use borrow.Author.Tests.{not-true, not-false}
 use Rattle.readers.proofs.Hexes.{stops-at, stops-end, too-many}
 use Rattle.readers.proofs.Taking.{Parts, parts-start, word-took, word-none, no-word, last-word, parts-more, filled}
 use borrow.Author.Needs.{needs}
-use Rattle.readers.proofs.take_hex.Statement.{statement}
-use Rattle.readers.proofs.take_hex.Tie as tie
+use Rattle.readers.proofs.hex.take_hex.Statement.{statement}
+use Rattle.readers.proofs.hex.take_hex.Tie as tie
 
 abbrev Inv-loop : tie.InvT-loop
 Inv-loop s a count words₀ len₀ n₀ i₀ words len n i = Parts s a words len n i × (i ≤ count)

@@ -1,4 +1,4 @@
--- `readers::take_assigned` meets its contract: the first letter decides.
+-- `readers::assigned::take_assigned` meets its contract: the first letter decides.
 -- Assumes nothing.
 use mathlib.Core.Path.{refl}
 use Rattle.meaning.specs.Ways.{emptyMap, emptyList}
@@ -7,8 +7,8 @@ use Rattle.readers.specs.Reads.{assigned}
 use Rattle.readers.specs.Given.{givenOf}
 use Rattle.readers.proofs.Values.{answered, refusing, no-assigned-end, is-map, is-list, plain-given}
 use borrow.Author.Needs.{needs}
-use Rattle.readers.proofs.take_assigned.Statement.{statement}
-use Rattle.readers.proofs.take_assigned.Tie as tie
+use Rattle.readers.proofs.assigned.take_assigned.Statement.{statement}
+use Rattle.readers.proofs.assigned.take_assigned.Tie as tie
 
 no-value-requires : tie.Need-no-value-requires
 no-value-requires c κs = search needs
