@@ -1,9 +1,9 @@
--- `message::take_place_way` meets its contract.
+-- `message::ways::take_place_way` meets its contract.
 -- Assumes nothing.
 use borrow.Author.Tests.{not-true, not-false}
 use Rattle.message.proofs.Places.{refused, no-way, bytes-behind, at-caret, a-place}
-use Rattle.message.proofs.take_place_way.Statement.{statement}
-use Rattle.message.proofs.take_place_way.Tie as tie
+use Rattle.message.proofs.ways.take_place_way.Statement.{statement}
+use Rattle.message.proofs.ways.take_place_way.Tie as tie
 
 powers-requires : tie.Need-powers-requires
 powers-requires c κs = tt

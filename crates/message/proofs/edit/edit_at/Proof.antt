@@ -1,12 +1,12 @@
--- `message::edit_at` meets its contract: each part is taken where the one before it ends.
+-- `message::edit::edit_at` meets its contract: each part is taken where the one before it ends.
 -- Assumes nothing.
 use mathlib.Core.Path.{sym, _∙_}
 use borrow.Author.Tests.{not-true, not-false}
 use Rattle.readers.proofs.Texts.{text-took, text-none}
 use Rattle.message.proofs.Edits.{refused, no-at, no-way, no-feed, no-deed, bytes-behind, unsuited, an-edit}
 use borrow.Author.Needs.{needs}
-use Rattle.message.proofs.edit_at.Statement.{statement}
-use Rattle.message.proofs.edit_at.Tie as tie
+use Rattle.message.proofs.edit.edit_at.Statement.{statement}
+use Rattle.message.proofs.edit.edit_at.Tie as tie
 
 slice-aggregate-take-text : tie.Need-slice-aggregate-take-text
 slice-aggregate-take-text c = search needs

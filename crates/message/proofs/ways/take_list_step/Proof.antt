@@ -1,12 +1,12 @@
--- `message::take_list_step` meets its contract.
+-- `message::ways::take_list_step` meets its contract.
 -- Assumes nothing.
 use mathlib.Core.Path.{refl}
 use Rattle.message.specs.Reads.{isCaret, isElement}
 use Rattle.readers.proofs.Texts.{text-took, text-none}
 use Rattle.message.proofs.Steps.{id-took, id-none}
 use borrow.Author.Needs.{needs}
-use Rattle.message.proofs.take_list_step.Statement.{statement}
-use Rattle.message.proofs.take_list_step.Tie as tie
+use Rattle.message.proofs.ways.take_list_step.Statement.{statement}
+use Rattle.message.proofs.ways.take_list_step.Tie as tie
 
 take-byte-requires : tie.Need-take-byte-requires
 take-byte-requires c κs = tt

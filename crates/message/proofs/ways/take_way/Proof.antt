@@ -1,4 +1,4 @@
--- `message::take_way` meets its contract. The loop's invariant, `State`: the first key and i - 1 steps stand from a to n.
+-- `message::ways::take_way` meets its contract. The loop's invariant, `State`: the first key and i - 1 steps stand from a to n.
 -- Assumes nothing.
 use Prim.Native.Nat.{_-_}
 use native.Mathlib.Omega.{arith}
@@ -7,8 +7,8 @@ use Rattle.message.specs.Means.{pad}
 use Rattle.message.proofs.Steps.{step-took, step-end, step-none}
 use Rattle.message.proofs.Trails.{State, no-top, start, end, bad, closed, ninth, more, none}
 use borrow.Author.Needs.{needs}
-use Rattle.message.proofs.take_way.Statement.{statement}
-use Rattle.message.proofs.take_way.Tie as tie
+use Rattle.message.proofs.ways.take_way.Statement.{statement}
+use Rattle.message.proofs.ways.take_way.Tie as tie
 
 abbrev Inv-loop : tie.InvT-loop
 Inv-loop s a t keys₀ last₀ n₀ i₀ keys last n i = State s a keys last n i

@@ -1,10 +1,10 @@
--- `message::take_deed` meets its contract.
+-- `message::edit::take_deed` meets its contract.
 -- Assumes nothing.
 use Rattle.readers.proofs.Texts.{text-took, text-none}
 use Rattle.message.proofs.Deeds.{an-assign, an-insert, a-delete, no-deed}
 use borrow.Author.Needs.{needs}
-use Rattle.message.proofs.take_deed.Statement.{statement}
-use Rattle.message.proofs.take_deed.Tie as tie
+use Rattle.message.proofs.edit.take_deed.Statement.{statement}
+use Rattle.message.proofs.edit.take_deed.Tie as tie
 
 slice-aggregate-take-text : tie.Need-slice-aggregate-take-text
 slice-aggregate-take-text c = search needs

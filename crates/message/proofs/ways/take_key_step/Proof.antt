@@ -1,9 +1,9 @@
--- `message::take_key_step` meets its contract.
+-- `message::ways::take_key_step` meets its contract.
 -- Assumes nothing.
 use borrow.Author.Tests.{not-true, not-false}
 use Rattle.message.proofs.Steps.{key-words, key-none}
-use Rattle.message.proofs.take_key_step.Statement.{statement}
-use Rattle.message.proofs.take_key_step.Tie as tie
+use Rattle.message.proofs.ways.take_key_step.Statement.{statement}
+use Rattle.message.proofs.ways.take_key_step.Tie as tie
 
 take-key-requires : tie.Need-take-key-requires
 take-key-requires c κs = tt

@@ -1,10 +1,10 @@
--- `message::may` meets its contract.
+-- `message::edit::may` meets its contract.
 -- Assumes nothing.
 use mathlib.Core.Path.{ap, sym}
 use Rattle.message.specs.Reads.{suits}
 use borrow.Author.Needs.{needs}
-use Rattle.message.proofs.may.Statement.{statement}
-use Rattle.message.proofs.may.Tie as tie
+use Rattle.message.proofs.edit.may.Statement.{statement}
+use Rattle.message.proofs.edit.may.Tie as tie
 
 enum-told : tie.Need-enum-told
 enum-told c = search needs

@@ -1,11 +1,11 @@
--- `message::take_value_line` meets its contract.
+-- `message::edit::take_value_line` meets its contract.
 -- Assumes nothing.
 use borrow.Author.Tests.{not-true, not-false}
 use Rattle.readers.proofs.Texts.{text-took, text-none}
 use Rattle.message.proofs.Deeds.{no-value, no-feed, a-value-line}
 use borrow.Author.Needs.{needs}
-use Rattle.message.proofs.take_value_line.Statement.{statement}
-use Rattle.message.proofs.take_value_line.Tie as tie
+use Rattle.message.proofs.edit.take_value_line.Statement.{statement}
+use Rattle.message.proofs.edit.take_value_line.Tie as tie
 
 take-assigned-requires : tie.Need-take-assigned-requires
 take-assigned-requires c κs = c .before .pre

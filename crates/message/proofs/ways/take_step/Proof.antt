@@ -1,9 +1,9 @@
--- `message::take_step` meets its contract: the first byte decides.
+-- `message::ways::take_step` meets its contract: the first byte decides.
 -- Assumes nothing.
 use Rattle.message.proofs.Steps.{finished-end, finished-feed, behind-brace, behind-bracket, neither}
 use borrow.Author.Needs.{needs}
-use Rattle.message.proofs.take_step.Statement.{statement}
-use Rattle.message.proofs.take_step.Tie as tie
+use Rattle.message.proofs.ways.take_step.Statement.{statement}
+use Rattle.message.proofs.ways.take_step.Tie as tie
 
 returns : tie.Need-returns
 returns c = finished-end _ _ (c .if1 .taken)
