@@ -1,11 +1,11 @@
--- `steps::has_one` meets its contract. Assumes nothing.
+-- `steps::value::has_one` meets its contract. Assumes nothing.
 use mathlib.Core.Path.{sym, _∙_}
 use mathlib.Core.Bool.{false≢true}
 use native.Mathlib.Omega.{arith}
 use borrow.Author.Needs.{needs}
 use Rattle.steps.proofs.Set.{has-one}
-use Rattle.steps.proofs.has_one.Statement.{statement}
-use Rattle.steps.proofs.has_one.Tie as tie
+use Rattle.steps.proofs.value.has_one.Statement.{statement}
+use Rattle.steps.proofs.value.has_one.Tie as tie
 
 returns : tie.Need-returns
 returns c e = absurd (false≢true e)

@@ -1,9 +1,9 @@
--- `steps::set_value` meets its contract. Assumes nothing.
+-- `steps::value::set_value` meets its contract. Assumes nothing.
 use native.Mathlib.Omega.{arith}
 use borrow.Author.Needs.{needs}
 use Rattle.steps.proofs.Set.{sets-one, sets-many}
-use Rattle.steps.proofs.set_value.Statement.{statement}
-use Rattle.steps.proofs.set_value.Tie as tie
+use Rattle.steps.proofs.value.set_value.Statement.{statement}
+use Rattle.steps.proofs.value.set_value.Tie as tie
 
 has-one-requires : tie.Need-has-one-requires
 has-one-requires c κs = search needs
