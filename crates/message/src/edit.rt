@@ -8,7 +8,6 @@ use readers::GivenRead;
 use readers::Past;
 ghost use mathlib.Core.Path.{_≡_};
 ghost use mathlib.Core.Bool.{false};
-ghost use Prim.Native.Nat.{_-_, _<_};
 ghost use lib.ListN.{drop};
 ghost use Rattle.decimal.specs.Powers.{powers};
 ghost use Rattle.message.specs.Reads.{until, ReadsValueLine, ReadsDeed, suits};

@@ -15,7 +15,6 @@ pub use ways::take_keys_way;
 pub use ways::take_place_way;
 ghost use mathlib.Core.Path.{_≡_};
 ghost use mathlib.Core.Bool.{false};
-ghost use Prim.Native.Nat.{_-_};
 ghost use Rattle.decimal.specs.Powers.{powers};
 ghost use Rattle.message.specs.Reads.{ReadsHead};
 ghost use Rattle.message.specs.Promises.{ReadsMessage};

@@ -7,7 +7,6 @@ use readers::IdRead;
 use readers::Past;
 ghost use mathlib.Core.Path.{_≡_};
 ghost use mathlib.Core.Bool.{false};
-ghost use Prim.Native.Nat.{_+_, _-_, _<_};
 ghost use Rattle.decimal.specs.Powers.{powers};
 ghost use Rattle.message.specs.Reads.{ReadsStep, ReadsKeyStep, ReadsListStep, ReadsWay};
 ghost use Rattle.message.specs.Promises.{ReadsPlaceWay, ReadsKeysWay, ReadsElementWay};

@@ -6,7 +6,6 @@ use crate::hex::take_string;
 use crate::take_integer;
 ghost use mathlib.Core.Path.{_≡_};
 ghost use mathlib.Core.Bool.{false};
-ghost use Prim.Native.Nat.{_+_, _-_, _<_};
 ghost use Rattle.decimal.specs.Powers.{powers};
 ghost use Rattle.readers.specs.Given.{ReadsPlain, ReadsAssigned, ReadsNumberValue, ReadsBytesValue, Bare};
 

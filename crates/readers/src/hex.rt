@@ -2,8 +2,7 @@
 use crate::KeyRead;
 use crate::StringRead;
 use crate::Word;
-ghost use mathlib.Core.Bool.{false};
-ghost use Prim.Native.Nat.{_+_, _-_, _≤_, _<_};
+ghost use Prim.Native.Nat.{_≤_};
 ghost use Rattle.readers.specs.Hex.{ReadsDigit, ReadsWord, ReadsHex, ReadsKey, ReadsString};
 
 // The value of a hex digit in lower case, and 16 for any other byte.

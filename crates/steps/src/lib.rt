@@ -8,11 +8,10 @@ pub use value::set_value;
 use words::open;
 use words::rank;
 use words::write3;
-ghost use Prim.Native.Nat.{_/_, _%_, _<_};
 ghost use mathlib.Core.Path.{_≡_};
 ghost use mathlib.Core.List.{[], _∷_};
 ghost use Rattle.tables.specs.Words.{marksAt};
-ghost use Rattle.steps.specs.Steps.{FlagsHead, Flags, Opens, Marks, Sets};
+ghost use Rattle.steps.specs.Steps.{FlagsHead, Flags, Opens, Marks};
 
 // A head's word with the flag of the list, or of the map.
 fn flagged(h: u64, list: bool) -> u64

@@ -8,13 +8,12 @@ use words::keep_values;
 use words::open;
 use words::rank_values;
 use words::write_words;
-ghost use Prim.Native.Nat.{_/_, _%_, _<_};
 ghost use mathlib.Core.Path.{_≡_};
 ghost use mathlib.Core.List.{_∷_};
 ghost use Rattle.tables.specs.Words.{valuesAt};
 ghost use Rattle.steps.specs.Steps.{Drops, Adds, HasOne, Sets};
 
-// How many values.
+// How many values a row has, by its head's word.
 fn values_of(h: u64) -> usize
     ensures { λ r. ⌜ r ≡ valuesAt h ⌝ }
 {
