@@ -1,18 +1,22 @@
 // Readers of the parts that messages, edits, sheets and the ways of reads are made of. Each takes what stands at a place of a text, and
 // answers it with the place behind it, or that nothing of its kind stands there. A table of powers `t` is `decimal::powers()`.
+mod assigned;
+mod hex;
+
+pub use assigned::take_assigned;
+pub use assigned::take_plain;
 use decimal::Number;
+pub use hex::take_key;
+pub use hex::take_string;
 use meaning::Counters;
 ghost use mathlib.Core.Path.{_≡_};
-ghost use mathlib.Core.Bool.{false};
 ghost use mathlib.Core.List.{[], _∷_};
-ghost use Prim.Native.Nat.{_+_, _-_, _≤_, _<_};
+ghost use Prim.Native.Nat.{_-_, _≤_};
 ghost use lib.ListN.{length, take, drop};
 ghost use Rattle.decimal.specs.Powers.{powers};
 ghost use Rattle.decimal.specs.Numbers.{ReadsNumber};
 ghost use Rattle.readers.specs.Reads.{ReadsText, ReadsId, commaNumbers, ReadsCounters, ReadsInteger};
-ghost use Rattle.readers.specs.Given.{ReadsPlain, ReadsAssigned, ReadsNumberValue, ReadsBytesValue, Bare};
 ghost use Rattle.readers.specs.Lines.{IsLine};
-ghost use Rattle.readers.specs.Hex.{ReadsDigit, ReadsWord, ReadsHex, ReadsKey, ReadsString};
 
 // The place behind a fixed text.
 pub enum Past {
@@ -204,248 +208,6 @@ pub fn take_integer(s: &[u8], a: usize, t: &[u64; 20]) -> IntegerRead
         value: value - 1,
         next,
     }
-}
-
-// The value of a hex digit in lower case, and 16 for any other byte.
-fn nibble(c: u8) -> u64
-    ensures { λ r. ⌜ ReadsDigit c r ⌝ }
-{
-    if c < b'0' {
-        return 16;
-    }
-    if c <= b'9' {
-        return decimal::wide(c - b'0');
-    }
-    if c < b'a' {
-        return 16;
-    }
-    if c <= b'f' {
-        return decimal::wide(c - b'a') + 10;
-    }
-    16
-}
-
-// As many bytes in hex as stand at a place, but at most eight.
-fn take_word(s: &[u8], a: usize) -> Word
-    ensures { λ r. ⌜ ReadsWord (now (s .entry)) a r ⌝ }
-{
-    let mut word: u64 = 0;
-    let mut len: u64 = 0;
-    let mut weight: u64 = 72057594037927936;
-    let mut n = a;
-    while len < 8 {
-        if s.len() <= n {
-            return Word {
-                ok: true,
-                word,
-                len,
-                next: n,
-            };
-        }
-        let h = nibble(s[n]);
-        if 16 <= h {
-            return Word {
-                ok: true,
-                word,
-                len,
-                next: n,
-            };
-        }
-        let m = n + 1;
-        if s.len() <= m {
-            return Word {
-                ok: false,
-                word: 0,
-                len: 0,
-                next: 0,
-            };
-        }
-        let l = nibble(s[m]);
-        if 16 <= l {
-            return Word {
-                ok: false,
-                word: 0,
-                len: 0,
-                next: 0,
-            };
-        }
-        word += (h * 16 + l) * weight;
-        weight = weight / 256;
-        len += 1;
-        n = m + 1;
-    }
-    Word {
-        ok: true,
-        word,
-        len,
-        next: n,
-    }
-}
-
-// All bytes in hex that stand at a place, at most eight for each of `count` words.
-fn take_hex(s: &[u8], a: usize, count: usize) -> StringRead
-    requires { ⌜ count ≤ 4 ⌝ }
-    ensures { λ r. ⌜ ReadsHex count (now (s .entry)) a r ⌝ }
-{
-    let mut words = [0u64; 4];
-    let mut len: u64 = 0;
-    let mut n = a;
-    let mut i: usize = 0;
-    while i < count {
-        let w = take_word(s, n);
-        if !w.ok {
-            return StringRead {
-                ok: false,
-                words: [0u64; 4],
-                len: 0,
-                next: 0,
-            };
-        }
-        words[i] = w.word;
-        len += w.len;
-        n = w.next;
-        if w.len < 8 {
-            return StringRead {
-                ok: true,
-                words,
-                len,
-                next: n,
-            };
-        }
-        i += 1;
-    }
-    if n < s.len() {
-        if nibble(s[n]) < 16 {
-            return StringRead {
-                ok: false,
-                words: [0u64; 4],
-                len: 0,
-                next: 0,
-            };
-        }
-    }
-    StringRead {
-        ok: true,
-        words,
-        len,
-        next: n,
-    }
-}
-
-// A string: 0 to 32 bytes in hex.
-pub fn take_string(s: &[u8], a: usize) -> StringRead
-    ensures { λ r. ⌜ ReadsString (now (s .entry)) a r ⌝ }
-{
-    take_hex(s, a, 4)
-}
-
-// A key: 0 to 16 bytes in hex.
-pub fn take_key(s: &[u8], a: usize) -> KeyRead
-    ensures { λ r. ⌜ ReadsKey (now (s .entry)) a r ⌝ }
-{
-    let r = take_hex(s, a, 2);
-    KeyRead {
-        ok: r.ok,
-        hi: r.words[0],
-        lo: r.words[1],
-        len: r.len,
-        next: r.next,
-    }
-}
-
-// A value without bytes of its own.
-fn a_value(given: Given, next: usize) -> GivenRead
-    ensures { λ r. ⌜ Bare given next r ⌝ }
-{
-    GivenRead {
-        ok: true,
-        given,
-        words: [0u64; 4],
-        next,
-    }
-}
-
-fn no_value() -> GivenRead
-    ensures { λ r. ⌜ r .ok ≡ false ⌝ }
-{
-    GivenRead {
-        ok: false,
-        given: Given::Null,
-        words: [0u64; 4],
-        next: 0,
-    }
-}
-
-// The integer behind `i`.
-fn take_number(s: &[u8], a: usize, t: &[u64; 20]) -> GivenRead
-    requires { ⌜ now t ≡ powers ⌝ }
-    ensures { λ r. ⌜ ReadsNumberValue (now (s .entry)) a r ⌝ }
-{
-    match take_integer(s, a, t) {
-        IntegerRead::NonNeg { value, next } => a_value(Given::NonNeg(value), next),
-        IntegerRead::Neg { value, next } => a_value(Given::Neg(value), next),
-        IntegerRead::Bad => no_value(),
-    }
-}
-
-// The string behind `s`.
-fn take_bytes(s: &[u8], a: usize) -> GivenRead
-    ensures { λ r. ⌜ ReadsBytesValue (now (s .entry)) a r ⌝ }
-{
-    let r = take_string(s, a);
-    let words = r.words;
-    GivenRead {
-        ok: r.ok,
-        given: Given::String(r.len),
-        words,
-        next: r.next,
-    }
-}
-
-// A plain value: n, t, f, i and a number, s and hex.
-pub fn take_plain(s: &[u8], a: usize, t: &[u64; 20]) -> GivenRead
-    requires { ⌜ now t ≡ powers ⌝ }
-    ensures { λ r. ⌜ ReadsPlain (now (s .entry)) a r ⌝ }
-{
-    if s.len() <= a {
-        return no_value();
-    }
-    let b = s[a];
-    let n = a + 1;
-    if b == b'n' {
-        return a_value(Given::Null, n);
-    }
-    if b == b't' {
-        return a_value(Given::True, n);
-    }
-    if b == b'f' {
-        return a_value(Given::False, n);
-    }
-    if b == b'i' {
-        return take_number(s, n, t);
-    }
-    if b == b's' {
-        return take_bytes(s, n);
-    }
-    no_value()
-}
-
-// What is assigned: a plain value, `{` or `[`.
-pub fn take_assigned(s: &[u8], a: usize, t: &[u64; 20]) -> GivenRead
-    requires { ⌜ now t ≡ powers ⌝ }
-    ensures { λ r. ⌜ ReadsAssigned (now (s .entry)) a r ⌝ }
-{
-    if s.len() <= a {
-        return no_value();
-    }
-    let b = s[a];
-    if b == b'{' {
-        return a_value(Given::Map, a + 1);
-    }
-    if b == b'[' {
-        return a_value(Given::List, a + 1);
-    }
-    take_plain(s, a, t)
 }
 
 // Where the line at a place ends: at its line feed, or at the end.

@@ -1,0 +1,62 @@
+-- `message::edit::take_value_line` meets its contract.
+-- Assumes nothing.
+use borrow.Author.Tests.{not-true, not-false}
+use Rattle.readers.proofs.Texts.{text-took, text-none}
+use Rattle.message.proofs.Deeds.{no-value, no-feed, a-value-line}
+use borrow.Author.Needs.{needs}
+use Rattle.message.proofs.edit.take_value_line.Statement.{statement}
+use Rattle.message.proofs.edit.take_value_line.Tie as tie
+
+take-assigned-requires : tie.Need-take-assigned-requires
+take-assigned-requires c κs = c .before .pre
+
+returns : tie.Need-returns
+returns c = no-value _ _ (c .before .before .take-assigned .result) (not-true _ (c .if1 .taken)) (c .before .before .take-assigned .ensures)
+
+take-byte-requires : tie.Need-take-byte-requires
+take-byte-requires c κs = tt
+
+enum-known-next : tie.Need-enum-known-next
+enum-known-next c = search needs
+
+enum-told : tie.Need-enum-told
+enum-told c = search needs
+
+ended-requires : tie.Need-ended-requires
+ended-requires c κs = tt
+
+returns-2 : tie.Need-returns-2
+returns-2 c =
+    let at-take-byte = c .before .before .before in
+    let at-if1 = at-take-byte .before in
+    let at-take-assigned = at-if1 .before .before in
+    no-feed _ _ (at-take-assigned .take-assigned .result) (not-false _ (at-if1 .if1 .left))
+    (at-take-assigned .take-assigned .ensures) (text-none _ (c .before .enum-told .given .1) (at-take-byte .take-byte .ensures)) _
+    (c .ended .result) (c .ended .ensures)
+
+ended-requires-2 : tie.Need-ended-requires-2
+ended-requires-2 c κs = tt
+
+returns-3 : tie.Need-returns-3
+returns-3 c =
+    let at-next = c .before .before in
+    let at-take-byte = at-next .before .before in
+    let at-if1 = at-take-byte .before in
+    let at-take-assigned = at-if1 .before .before in
+    a-value-line _ _ (at-take-assigned .take-assigned .result) (not-false _ (at-if1 .if1 .left))
+    (at-take-assigned .take-assigned .ensures) _ (text-took _ (at-next .next .given .1) (at-take-byte .take-byte .ensures))
+    (c .ended2 .result) (c .ended2 .ensures)
+
+pub take-value-line-spec : {M : Type 1} → statement M
+take-value-line-spec =
+    tie.close
+    (tie.spec
+    take-assigned-requires
+    returns
+    take-byte-requires
+    enum-known-next
+    enum-told
+    ended-requires
+    returns-2
+    ended-requires-2
+    returns-3)

@@ -1,0 +1,73 @@
+-- `readers::assigned::take_number` meets its contract.
+-- Assumes nothing.
+use mathlib.Core.Path.{subst}
+use denote.Ref.{now}
+use Rattle.meaning.specs.Places.{integer}
+use Rattle.meaning.specs.Ways.{plain}
+use Rattle.readers.specs.Reads.{integers, ReadsInteger}
+use Rattle.readers.proofs.Values.{nonNeg-value, neg-value, refusing}
+use borrow.Author.Needs.{needs}
+use Rattle.readers.proofs.assigned.take_number.Statement.{statement}
+use Rattle.readers.proofs.assigned.take_number.Tie as tie
+
+take-integer-requires : tie.Need-take-integer-requires
+take-integer-requires c κs = search needs
+
+enum-known-value : tie.Need-enum-known-value
+enum-known-value c = search needs
+
+a-value-requires : tie.Need-a-value-requires
+a-value-requires c κs = search needs
+
+enum-known-value-2 : tie.Need-enum-known-value-2
+enum-known-value-2 c = search needs
+
+a-value-requires-2 : tie.Need-a-value-requires-2
+a-value-requires-2 c κs = search needs
+
+enum-told : tie.Need-enum-told
+enum-told c = search needs
+
+no-value-requires : tie.Need-no-value-requires
+no-value-requires c κs = search needs
+
+returns : tie.Need-returns
+returns c =
+    let at-value = c .before .before in
+    let at-take-integer = at-value .before .before in
+    let at-start = at-take-integer .before .before in
+    nonNeg-value _ _ _ _ _ (c .a-value .ensures)
+    (subst (ReadsInteger (now (at-start .args .s)) (at-start .args .a)) (at-value .value .given .1)
+    (at-take-integer .take-integer .ensures))
+
+returns-2 : tie.Need-returns-2
+returns-2 c =
+    let at-value2 = c .before .before in
+    let at-take-integer = at-value2 .before .before in
+    let at-start = at-take-integer .before .before in
+    neg-value _ _ _ _ _ (c .a-value2 .ensures)
+    (subst (ReadsInteger (now (at-start .args .s)) (at-start .args .a)) (at-value2 .value2 .given .1)
+    (at-take-integer .take-integer .ensures))
+
+returns-3 : tie.Need-returns-3
+returns-3 c =
+    let at-take-integer = c .before .before .before in
+    let at-start = at-take-integer .before .before in
+    refusing integers (λ z. plain (integer z)) _ _ (c .no-value .result) (c .no-value .ensures)
+    (subst (ReadsInteger (now (at-start .args .s)) (at-start .args .a)) (c .before .enum-told .given .1)
+    (at-take-integer .take-integer .ensures))
+
+pub take-number-spec : {M : Type 1} → statement M
+take-number-spec =
+    tie.close
+    (tie.spec
+    take-integer-requires
+    enum-known-value
+    a-value-requires
+    enum-known-value-2
+    a-value-requires-2
+    enum-told
+    no-value-requires
+    returns
+    returns-2
+    returns-3)

@@ -1,0 +1,124 @@
+-- `readers::hex::take_hex` meets its contract. The loop's invariant, `Parts`: i full words stand from a to n.
+-- Assumes nothing.
+use Prim.Native.Nat.{_-_, _≤_}
+use native.Mathlib.Omega.{arith}
+use borrow.Author.Tests.{not-true, not-false}
+use Rattle.readers.proofs.Hexes.{stops-at, stops-end, too-many}
+use Rattle.readers.proofs.Taking.{Parts, parts-start, word-took, word-none, no-word, last-word, parts-more, filled}
+use borrow.Author.Needs.{needs}
+use Rattle.readers.proofs.hex.take_hex.Statement.{statement}
+use Rattle.readers.proofs.hex.take_hex.Tie as tie
+
+abbrev Inv-loop : tie.InvT-loop
+Inv-loop s a count words₀ len₀ n₀ i₀ words len n i = Parts s a words len n i × (i ≤ count)
+
+abbrev μ-loop : tie.MeasureT-loop
+μ-loop s a count words₀ len₀ n₀ i₀ words len n i = count - i
+
+loop-holds : tie.Need-loop-holds Inv-loop μ-loop
+loop-holds c = (parts-start _ _, omega arith)
+
+take-word-requires : tie.Need-take-word-requires Inv-loop μ-loop
+take-word-requires c κs = search needs
+
+returns : tie.Need-returns Inv-loop μ-loop
+returns c =
+    let at-take-word = c .before .before in
+    let at-loop-test = at-take-word .before in
+    let at-loop = at-loop-test .before in
+    let at-start = at-loop .before .before in
+    no-word (at-start .args .count) _ _ _ _ _ _ (at-loop .loop .inv .0) (at-start .pre) (at-loop-test .loop-test .taken)
+    (at-take-word .take-word .result) (word-none _ _ (at-take-word .take-word .result) (not-true _ (c .if1 .taken))
+    (at-take-word .take-word .ensures))
+
+mul-words : tie.Need-mul-words Inv-loop μ-loop
+mul-words c = search needs
+
+array-write-words : tie.Need-array-write-words Inv-loop μ-loop
+array-write-words c = search needs
+
+add-len : tie.Need-add-len Inv-loop μ-loop
+add-len c =
+    let at-take-word = c .before .before .before in
+    let at-loop = at-take-word .before .before in
+    omega (
+      arith,
+      at-loop .loop .inv .0 .full,
+      word-took _ _ (at-take-word .take-word .result) (not-false _ (c .before .if1 .left))
+          (at-take-word .take-word .ensures) .most,
+    )
+
+returns-2 : tie.Need-returns-2 Inv-loop μ-loop
+returns-2 c =
+    let at-if1 = c .before .before .before in
+    let at-take-word = at-if1 .before .before in
+    let at-loop-test = at-take-word .before in
+    let at-loop = at-loop-test .before in
+    let at-start = at-loop .before .before in
+    last-word (at-start .args .count) _ _ _ _ _ _ (at-loop .loop .inv .0) (at-start .pre) (at-loop-test .loop-test .taken)
+    (at-take-word .take-word .result) (word-took _ _ (at-take-word .take-word .result) (not-false _ (at-if1 .if1 .left))
+    (at-take-word .take-word .ensures)) (c .if2 .taken)
+
+add-i : tie.Need-add-i Inv-loop μ-loop
+add-i c = search needs
+
+loop-less : tie.Need-loop-less Inv-loop μ-loop
+loop-less c = search needs
+
+loop-again : tie.Need-loop-again Inv-loop μ-loop
+loop-again c =
+    let at-if1 = c .before .before .before in
+    let at-take-word = at-if1 .before .before in
+    let at-loop-test = at-take-word .before in
+    let at-loop = at-loop-test .before in
+    let at-start = at-loop .before .before in (
+      parts-more (at-start .args .count) _ _ _ _ _ _ (at-loop .loop .inv .0) (at-start .pre) (at-loop-test .loop-test .taken)
+          (at-take-word .take-word .result) (word-took _ _ (at-take-word .take-word .result) (not-false _ (at-if1 .if1 .left))
+          (at-take-word .take-word .ensures)) (c .if2 .left),
+      omega arith,
+    )
+
+shared-slice-read-nibble : tie.Need-shared-slice-read-nibble Inv-loop μ-loop
+shared-slice-read-nibble c = search needs
+
+nibble-requires : tie.Need-nibble-requires Inv-loop μ-loop
+nibble-requires c κs = search needs
+
+returns-3 : tie.Need-returns-3 Inv-loop μ-loop
+returns-3 c =
+    let at-if3 = c .before .before .before in
+    let at-loop = at-if3 .before .before in
+    too-many _ _ (at-if3 .if3 .taken) _ (c .if4 .taken) (c .before .nibble .ensures .digit (c .if4 .taken)) _ _ _
+    (at-loop .loop .inv .0 .hexed) (omega (arith, at-loop .loop .inv .0 .long, at-loop .loop .inv .0 .full, at-loop .loop .inv .1))
+
+returns-4 : tie.Need-returns-4 Inv-loop μ-loop
+returns-4 c =
+    let at-if3 = c .before .before .before in
+    let at-loop = at-if3 .before .before in
+    filled _ _ _ _ _ _ _ (at-loop .loop .inv .0) (at-loop .loop .inv .1)
+    (stops-at _ _ (at-if3 .if3 .taken) (c .before .nibble .ensures .other (c .if4 .left)))
+
+returns-5 : tie.Need-returns-5 Inv-loop μ-loop
+returns-5 c = filled _ _ _ _ _ _ _ (c .before .before .loop .inv .0) (c .before .before .loop .inv .1) (stops-end _ _ (c .if3 .left))
+
+pub take-hex-spec : {M : Type 1} → statement M
+take-hex-spec =
+    tie.close
+    (tie.spec
+    Inv-loop
+    μ-loop
+    loop-holds
+    take-word-requires
+    returns
+    mul-words
+    array-write-words
+    add-len
+    returns-2
+    add-i
+    loop-less
+    loop-again
+    shared-slice-read-nibble
+    nibble-requires
+    returns-3
+    returns-4
+    returns-5)
