@@ -1,18 +1,20 @@
 // Document 01, "What is answered": an operation judged on the document as it stands, before anything is changed, and then carried out.
-use apply::Act;
+mod carry;
+mod limits;
+
+use carry::carry_out;
+use limits::goes_down;
+use limits::has_room;
+use limits::is_small;
 use meaning::Counters;
 use message::Deed;
 use message::Operation;
 use tables::Counts;
 use tables::Stop;
-use weigh::Weight;
-ghost use Prim.Native.Nat.{_+_, _*_, _≤_};
 ghost use mathlib.Core.Path.{_≡_};
-ghost use lib.ListN.{length, take};
 ghost use Rattle.tables.specs.Holding.{four};
-ghost use Rattle.tables.specs.Seek.{holdsIf};
-ghost use Rattle.operate.specs.Judging.{isTaken, Small, hasRoom, goesDown};
-ghost use Rattle.operate.specs.Judging.{TopsIn, Forestalls, JudgesWay, JudgesReady, Judges, CarriesWay, CarriesOut, TakesOn, Applies};
+ghost use Rattle.operate.specs.Judging.{isTaken};
+ghost use Rattle.operate.specs.Judging.{TopsIn, Forestalls, JudgesWay, JudgesReady, Judges, TakesOn, Applies};
 
 // What an operation comes to: it is taken; it comes too early; or the refusals of document 01, by name.
 pub enum Judged {
@@ -36,64 +38,6 @@ pub struct Outcome {
 pub struct Later {
     pub counts: Counts,
     pub seen: Counters,
-}
-
-// Whether the numbers are such as memory that holds a document comes to.
-fn is_small(c: Counts, w: Weight) -> bool
-    ensures { λ r. ⌜ holdsIf r (Small c w) ⌝ }
-{
-    if c.rows > 264 {
-        return false;
-    }
-    if c.marks > 1032 {
-        return false;
-    }
-    if c.values > 257 {
-        return false;
-    }
-    if w.places > 24 {
-        return false;
-    }
-    if w.marks > 24 {
-        return false;
-    }
-    if w.values > 1 {
-        return false;
-    }
-    if w.gone_marks > 1056 {
-        return false;
-    }
-    if w.gone_values > 258 {
-        return false;
-    }
-    true
-}
-
-// 10: whether what comes has room, where what goes leaves its own.
-fn has_room(c: Counts, w: Weight) -> bool
-    requires { ⌜ Small c w ⌝ }
-    ensures { λ r. ⌜ r ≡ hasRoom c w ⌝ }
-{
-    if c.rows + w.places > 256 {
-        return false;
-    }
-    if c.marks + w.marks > 1024 + w.gone_marks {
-        return false;
-    }
-    c.values + w.values <= 256 + w.gone_values
-}
-
-// 9: whether a new element comes after one whose id isn't smaller; the words are those of the way's last key.
-fn goes_down(deed: Deed, id: u64, hi: u64, len: u64) -> bool
-    ensures { λ r. ⌜ r ≡ goesDown deed id hi len ⌝ }
-{
-    if len != 17 {
-        return false;
-    }
-    if hi < id {
-        return false;
-    }
-    apply::is_insert(deed)
 }
 
 // 8, 9, 10, of an operation that is ready; `words` are those of its way, of n keys.
@@ -235,59 +179,6 @@ pub fn judge(
         return judge_ready(heads, keys, marks, values, c, top, op);
     }
     early
-}
-
-// Carries out what o says; `words` are those of its way, of n keys.
-fn carry_way(
-    heads: &mut [u64],
-    keys: &mut [u64],
-    marks: &mut [u64],
-    values: &mut [u64],
-    c: Counts,
-    top: Stop,
-    o: Act,
-    words: &[u64],
-    n: usize,
-) -> Counts
-    ensures { λ e. ⌜ CarriesWay (four (now (heads .entry)) (now (keys .entry)) (now (marks .entry)) (now (values .entry))) c top o
-        (now (words .entry)) n e (four (now (heads .exit)) (now (keys .exit)) (now (marks .exit)) (now (values .exit))) ⌝ }
-{
-    if n > 8 {
-        return c;
-    }
-    let end = 3 * n;
-    if end > words.len() {
-        return c;
-    }
-    let e = apply::descend(heads, keys, marks, values, c, top, 1, o, &words[..end]);
-    e.counts
-}
-
-// Carries an operation out.
-fn carry_out(
-    heads: &mut [u64],
-    keys: &mut [u64],
-    marks: &mut [u64],
-    values: &mut [u64],
-    c: Counts,
-    top: Stop,
-    op: Operation,
-) -> Counts
-    ensures { λ e. ⌜ CarriesOut (four (now (heads .entry)) (now (keys .entry)) (now (marks .entry)) (now (values .entry))) c top op e
-        (four (now (heads .exit)) (now (keys .exit)) (now (marks .exit)) (now (values .exit))) ⌝ }
-{
-    let way = op.way;
-    let words = way.keys;
-    let deps = op.deps;
-    let deed = op.deed;
-    let parts = op.words;
-    let o = Act {
-        id: op.id,
-        deps,
-        deed,
-        words: parts,
-    };
-    carry_way(heads, keys, marks, values, c, top, o, &words, way.n)
 }
 
 // Whether an operation is taken.

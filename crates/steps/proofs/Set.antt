@@ -72,7 +72,13 @@ sets-one s d id kind words c h v v′ O o k m A R r x H t u l w =
     let S : set h (length A) (headWord r′) ≡ h = rw (← G, ← p .row) (set-getD h (s .row) 0) in
     subst (λ z. Holds (four z k m v′) c (A ++ r′ ∷ R)) S
     (changed A r r′ R h k m v m v′ c c H refl
-    (λ g. record { spot = g .spot; depth = g .depth; marks = g .marks; values = asc-put idOfValue new _ (asc-keep idOfValue _ (r .values) (g .values)) })
+    (λ g. record {
+      spot = g .spot;
+      depth = g .depth;
+      marks = g .marks;
+      values = asc-put idOfValue new _
+          (asc-keep idOfValue _ (r .values) (g .values));
+    })
     (H .marks ∙ ap (pad marksRoom) (marks-same A r r′ R refl)) M refl refl (omega (arith, ap length (Y .1), ap length q)) (H .marks-fit)
     (H .values-fit))
 

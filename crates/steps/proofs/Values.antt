@@ -61,7 +61,16 @@ module _ (A R : List Row) (r : Row) (v : List ℕ) (e : v ≡ pad valuesRoom (va
       let w : eachValue (r′ .values) ≡ valueWords a = ap eachValue q ∙ append-nil (valueWords a) in
       let b : eachValue (r .values) ≡ valueWords y = ap eachValue p ∙ append-nil (valueWords y) in
       let l : length (valuesOf (A ++ r ∷ R)) ≡ length (valuesOf (A ++ r′ ∷ R)) =
-      omega (arith, values-length (A ++ r ∷ R), values-length (A ++ r′ ∷ R), values-between A r R, values-between A r′ R, ap length p, ap length q) in
+      omega (
+        arith,
+        values-length (A ++ r ∷ R),
+        values-length (A ++ r′ ∷ R),
+        values-between A r R,
+        values-between A r′ R,
+        ap length
+            p,
+        ap length q,
+      ) in
       ap (overAt from (valueWords a)) (e ∙ values-parts A r R z)
       ∙ (over-parts (valuesOf A) (eachValue (r .values)) (valuesOf R ++ z) (valueWords a) from (omega (arith, values-length A))
       (omega (arith, strides-value .wide a, strides-value .wide y, ap length b))

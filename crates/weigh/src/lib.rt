@@ -1,152 +1,34 @@
 // The judgement of an operation on the tables, before anything is changed: how many marks and values it takes away, how many places,
 // marks and values it adds, and whether each element on its way is there. Nothing is written. No function asks anything of its caller:
 // if the tables hold rows, the answers are those of the rows.
+mod loss;
+mod sums;
+
 use counters::covered;
+pub use loss::depth_at;
+pub use loss::gone;
+pub use loss::gone_row;
+pub use loss::gone_under;
 use meaning::Counters;
 use message::Deed;
-use readers::Given;
+use sums::carry;
+use sums::deed_number;
+use sums::element;
+use sums::mark;
+use sums::weightless;
 use tables::Stop;
 use tables::find;
 use tables::known;
 use tables::past;
 use tables::want_of;
-use words::covered_marks;
-use words::covered_values;
-ghost use mathlib.Core.Path.{_≡_};
 ghost use Prim.Native.Nat.{ℕ, _<_, _≤_};
 ghost use mathlib.Core.List.{List, [], _∷_};
 ghost use Rattle.weigh.specs.Weighs.{Looks, SightGone, PlaceWeighed, WayWeighed, Weighed};
-ghost use Rattle.weigh.specs.Weighs.{plainGiven, deedNumber, marked, carried, nothingWeighed, elementWeighed};
-ghost use Rattle.weigh.specs.Goes.{RowGone, UnderGone, BlockGone, RowDeep};
 
 // How many marks and values go.
 pub struct Lost {
     pub marks: usize,
     pub values: usize,
-}
-
-// How many marks and values of a row d covers.
-pub fn gone_row(heads: &[u64], marks: &[u64], values: &[u64], s: Stop, d: Counters) -> Lost
-    ensures { λ g. ⌜ RowGone (now (heads .entry)) (now (marks .entry)) (now (values .entry)) s (d .at) g ⌝ }
-{
-    let row = s.row;
-    if row >= heads.len() {
-        return Lost {
-            marks: 0,
-            values: 0,
-        };
-    }
-    let h = heads[row];
-    let m = (h / 128 % 2048) as usize;
-    let v = (h / 262144 % 512) as usize;
-    let from = s.mark;
-    if from > 1032 {
-        return Lost {
-            marks: 0,
-            values: 0,
-        };
-    }
-    let at = s.value;
-    if at > 257 {
-        return Lost {
-            marks: 0,
-            values: 0,
-        };
-    }
-    if from + m > marks.len() {
-        return Lost {
-            marks: 0,
-            values: 0,
-        };
-    }
-    if at * 6 + v * 6 > values.len() {
-        return Lost {
-            marks: 0,
-            values: 0,
-        };
-    }
-    let a = covered_marks(marks, from, m, d);
-    let b = covered_values(values, at * 6, v, d);
-    Lost {
-        marks: a,
-        values: b,
-    }
-}
-
-// The same of the rows deeper than n, from a place on up to the first that isn't.
-pub fn gone_under(
-    heads: &[u64],
-    marks: &[u64],
-    values: &[u64],
-    rows: usize,
-    from: Stop,
-    n: u64,
-    d: Counters,
-) -> Lost
-    ensures { λ g. ⌜ UnderGone (now (heads .entry)) (now (marks .entry)) (now (values .entry)) rows from n (d .at) g ⌝ }
-{
-    let mut at = from;
-    let mut sum = Lost {
-        marks: 0,
-        values: 0,
-    };
-    if rows > 264 {
-        return sum;
-    }
-    if at.row > rows {
-        return sum;
-    }
-    if at.mark > 1032 {
-        return sum;
-    }
-    if at.value > 257 {
-        return sum;
-    }
-    while at.row < rows {
-        let row = at.row;
-        if row >= heads.len() {
-            return sum;
-        }
-        let h = heads[row];
-        if h % 16 <= n {
-            return sum;
-        }
-        let g = gone_row(heads, marks, values, at, d);
-        sum = Lost {
-            marks: sum.marks + g.marks,
-            values: sum.values + g.values,
-        };
-        at = Stop {
-            row: row + 1,
-            mark: at.mark + (h / 128 % 2048) as usize,
-            value: at.value + (h / 262144 % 512) as usize,
-        };
-    }
-    sum
-}
-
-// How deep a row is.
-pub fn depth_at(heads: &[u64], row: usize) -> u64
-    ensures { λ r. ⌜ RowDeep (now (heads .entry)) row r ⌝ }
-{
-    if row >= heads.len() {
-        return 0;
-    }
-    heads[row] % 16
-}
-
-// What goes of a block: of the row at s and the deeper rows behind it.
-pub fn gone(heads: &[u64], marks: &[u64], values: &[u64], rows: usize, s: Stop, d: Counters) -> Lost
-    ensures { λ g. ⌜ BlockGone (now (heads .entry)) (now (marks .entry)) (now (values .entry)) rows s (d .at) g ⌝ }
-{
-    let own = gone_row(heads, marks, values, s, d);
-    let next = past(heads, s);
-    let n = depth_at(heads, s.row);
-    let under = gone_under(heads, marks, values, rows, next, n, d);
-    Lost {
-        marks: own.marks + under.marks,
-        values: own.values + under.values,
-    }
 }
 
 // A place that was looked for: where it stands, and whether it does.
@@ -223,32 +105,6 @@ fn lost_at(
     gone(heads, marks, values, rows, at, d)
 }
 
-fn plain(g: Given) -> bool
-    ensures { λ r. ⌜ r ≡ plainGiven g ⌝ }
-{
-    match g {
-        Given::Null => true,
-        Given::True => true,
-        Given::False => true,
-        Given::NonNeg(_) => true,
-        Given::Neg(_) => true,
-        Given::String(_) => true,
-        Given::Map => false,
-        Given::List => false,
-    }
-}
-
-// Delete, assign of a plain value, of an empty map or list, insert of a plain value, of an empty map or list.
-fn deed_number(deed: Deed) -> u64
-    ensures { λ r. ⌜ r ≡ deedNumber deed ⌝ }
-{
-    match deed {
-        Deed::Assign(g) => { if plain(g) { 1 } else { 2 } }
-        Deed::Insert(g) => { if plain(g) { 3 } else { 4 } }
-        Deed::Delete => 0,
-    }
-}
-
 // What an assign or a delete comes to at its place.
 fn weigh_place(
     heads: &[u64],
@@ -289,97 +145,6 @@ fn weigh_place(
         values: 0,
         gone_marks: g.marks,
         gone_values: g.values,
-    }
-}
-
-// The mark on the way, unless the operation deletes.
-fn mark(u: Weight, deed: u64) -> Weight
-    requires { ⌜ u .marks < 9223372036854775808 ⌝ }
-    ensures { λ x. ⌜ x ≡ marked u deed ⌝ }
-{
-    if deed == 0 {
-        return u;
-    }
-    Weight {
-        led: u.led,
-        places: u.places,
-        marks: u.marks + 1,
-        values: u.values,
-        gone_marks: u.gone_marks,
-        gone_values: u.gone_values,
-    }
-}
-
-// What is weighed at a place that was looked for under a key: an unknown one is made, if it is under a map key and not deleted.
-fn carry(u: Weight, there: bool, list: bool, covers: bool, makes: bool) -> Weight
-    requires { ⌜ u .places < 9223372036854775808 ⌝ }
-    ensures { λ x. ⌜ x ≡ carried u there list covers makes ⌝ }
-{
-    if there {
-        if list {
-            if !covers {
-                return Weight {
-                    led: false,
-                    places: u.places,
-                    marks: u.marks,
-                    values: u.values,
-                    gone_marks: u.gone_marks,
-                    gone_values: u.gone_values,
-                };
-            }
-        }
-        return u;
-    }
-    if list {
-        return weightless(false);
-    }
-    if makes {
-        return Weight {
-            led: u.led,
-            places: u.places + 1,
-            marks: u.marks,
-            values: u.values,
-            gone_marks: u.gone_marks,
-            gone_values: u.gone_values,
-        };
-    }
-    weightless(u.led)
-}
-
-fn weightless(led: bool) -> Weight
-    ensures { λ x. ⌜ x ≡ nothingWeighed led ⌝ }
-{
-    Weight {
-        led: led,
-        places: 0,
-        marks: 0,
-        values: 0,
-        gone_marks: 0,
-        gone_values: 0,
-    }
-}
-
-// A new element: a place with a mark, and a value if it is a plain one.
-fn element(led: bool, deed: u64) -> Weight
-    ensures { λ x. ⌜ x ≡ elementWeighed led deed ⌝ }
-{
-    if deed == 3 {
-        return Weight {
-            led: led,
-            places: 1,
-            marks: 1,
-            values: 1,
-            gone_marks: 0,
-            gone_values: 0,
-        };
-    }
-    Weight {
-        led: led,
-        places: 1,
-        marks: 1,
-        values: 0,
-        gone_marks: 0,
-        gone_values: 0,
     }
 }
 

@@ -14,9 +14,9 @@ use Rattle.apply.proofs.descend.Kinds as descend-kinds
 use Rattle.apply.proofs.+descend.Lts-descend as descend-lts
 use Rattle.apply.proofs.enter.Reads as enter-reads
 use Rattle.apply.proofs.finish.Reads as finish-reads
-use Rattle.apply.proofs.inserts_here.Reads as inserts-here-reads
+use Rattle.apply.proofs.kinds.inserts_here.Reads as inserts-here-reads
 use Rattle.tables.proofs.past.Reads as past-reads
-use Rattle.apply.proofs.put_element.Reads as put-element-reads
+use Rattle.apply.proofs.seats.put_element.Reads as put-element-reads
 use Rattle.apply.proofs.reach.Reads as reach-reads
 use Rattle.apply.proofs.+descend.{statement}
 use Rattle.apply.proofs.+descend.Tie.{close}

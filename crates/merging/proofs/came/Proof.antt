@@ -11,7 +11,9 @@ use Rattle.merging.proofs.came.Lts as lts
 use Rattle.io.proofs.count.Reads as count-reads
 
 returns : tie.Need-returns
-returns c = came-not (c .before .before .args .got) _ _ (c .before .before .pre .0) (c .if1 .taken) (toZ-ofZ w64 (c .before .before .args .got) (c .before .before .fits .got))
+returns c =
+    let at-start = c .before .before in
+    came-not (at-start .args .got) _ _ (at-start .pre .0) (c .if1 .taken) (toZ-ofZ w64 (at-start .args .got) (at-start .fits .got))
 
 sub-count : tie.Need-sub-count
 sub-count c = search needs
@@ -30,7 +32,10 @@ add-t12 c = search needs
 
 returns-2 : tie.Need-returns-2
 returns-2 c =
-    came-behind (c .before .before .before .before .args .got) _ _ _ _ (c .before .before .before .before .pre .0) (c .before .before .before .before .pre .1) (c .before .before .if1 .left) (c .count .ensures .1) (toZ-ofZ w64 (c .before .before .before .before .args .got) (c .before .before .before .before .fits .got)) (omega arith) (c .count .ensures .0 .0)
+    let at-if1 = c .before .before in
+    let at-start = at-if1 .before .before in
+    came-behind (at-start .args .got) _ _ _ _ (at-start .pre .0) (at-start .pre .1) (at-if1 .if1 .left) (c .count .ensures .1)
+    (toZ-ofZ w64 (at-start .args .got) (at-start .fits .got)) (omega arith) (c .count .ensures .0 .0)
 
 pub came-spec : {M : Type 1} → statement M
 came-spec =

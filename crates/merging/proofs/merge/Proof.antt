@@ -47,7 +47,10 @@ slice-aggregate-print-4 : tie.Need-slice-aggregate-print-4
 slice-aggregate-print-4 c = search needs
 
 print-requires : tie.Need-print-requires
-print-requires c κs = took-keeps (c .before .before .before .before .before .before .before .before .before .before .before .before .receive-all .ensures (c .before .before .before .before .before .if1 .taken))
+print-requires c κs =
+    let at-if1 = c .before .before .before .before .before in
+    let at-receive-all = at-if1 .before .before .before .before .before .before .before in
+    took-keeps (at-receive-all .receive-all .ensures (at-if1 .if1 .taken))
 
 returns : tie.Need-returns
 returns c = search needs

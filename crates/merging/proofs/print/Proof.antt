@@ -15,7 +15,10 @@ whole-sheet-requires : tie.Need-whole-sheet-requires
 whole-sheet-requires c κs = search needs
 
 write-first-requires : tie.Need-write-first-requires
-write-first-requires c κs = (c .before .before .before .whole-sheet .ensures .0, sheet-printable (c .before .before .before .before .before .before .before .before .before .before .pre) (c .before .before .before .whole-sheet .ensures .1))
+write-first-requires c κs =
+    let at-whole-sheet = c .before .before .before in
+    let at-pre = at-whole-sheet .before .before .before .before .before .before .before in
+    (at-whole-sheet .whole-sheet .ensures .0, sheet-printable (at-pre .pre) (at-whole-sheet .whole-sheet .ensures .1))
 
 returns : tie.Need-returns
 returns c = search needs

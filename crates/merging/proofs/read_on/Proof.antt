@@ -32,7 +32,14 @@ errno-requires c κs = search needs
 
 came-requires : tie.Need-came-requires
 came-requires c κs =
-    (room-holds (c .before .before .before .before .before .before .before .before .make-room .ensures) (c .before .before .before .before .read .last .1 .0) (c .before .before .before .before .read .kept .1 .0), room-free (c .before .before .before .before .before .before .before .before .make-room .ensures) (c .before .before .before .before .read .last .1 .0) (c .before .before .before .before .read .kept .1 .0) (omega (arith, c .before .before .before .before .before .before .before .before .make-room .kept, c .before .before .before .before .before .before .before .before .before .before .before .pre .1)))
+    let at-read = c .before .before .before .before in
+    let at-make-room = at-read .before .before .before .before in
+    let at-pre = at-make-room .before .before .before in (
+      room-holds (at-make-room .make-room .ensures) (at-read .read .last .1 .0) (at-read .read .kept .1 .0),
+      room-free
+          (at-make-room .make-room .ensures) (at-read .read .last .1 .0) (at-read .read .kept .1 .0)
+          (omega (arith, at-make-room .make-room .kept, at-pre .pre .1)),
+    )
 
 slice-aggregate-fail : tie.Need-slice-aggregate-fail
 slice-aggregate-fail c = search needs
@@ -44,13 +51,22 @@ same-length : tie.Need-same-length
 same-length c = search needs
 
 returns : tie.Need-returns
-returns c = reads-chunk (c .before .before .before .before .before .before .before .before .before .before .before .before .make-room .ensures) (c .before .before .before .before .before .before .before .before .read .last .1 .0) (c .before .before .before .before .before .before .before .before .read .kept .1 .0) _ _ (c .before .before .before .came .ensures)
+returns c =
+    let at-came = c .before .before .before in
+    let at-read = at-came .before .before .before .before .before in
+    let at-make-room = at-read .before .before .before .before in
+    reads-chunk (at-make-room .make-room .ensures) (at-read .read .last .1 .0) (at-read .read .kept .1 .0) _ _
+    (at-came .came .ensures)
 
 same-length-2 : tie.Need-same-length-2
 same-length-2 c = search needs
 
 returns-2 : tie.Need-returns-2
-returns-2 c = reads-chunk (c .before .before .before .before .before .before .before .before .before .before .make-room .ensures) (c .before .before .before .before .before .before .read .last .1 .0) (c .before .before .before .before .before .before .read .kept .1 .0) _ _ (c .before .came .ensures)
+returns-2 c =
+    let at-read = c .before .before .before .before .before .before in
+    let at-make-room = at-read .before .before .before .before in
+    reads-chunk (at-make-room .make-room .ensures) (at-read .read .last .1 .0) (at-read .read .kept .1 .0) _ _
+    (c .before .came .ensures)
 
 pub read-on-spec : {M : Type 1} → statement M
 read-on-spec =

@@ -25,25 +25,71 @@ loop-holds : tie.Need-loop-holds Inv-loop μ-loop
 loop-holds c = ((refl, refl, refl, refl, refl, refl), turning-none _ _ _ _ _)
 
 read-on-requires : tie.Need-read-on-requires Inv-loop μ-loop
-read-on-requires c κs = (c .before .before .loop .inv .1 .holds, omega (arith, c .before .before .loop .inv .0 .5, c .before .before .loop .inv .1 .short, c .before .before .before .before .before .before .before .before .before .pre .1))
+read-on-requires c κs =
+    let at-loop = c .before .before in
+    let at-pre = at-loop .before .before .before .before .before .before .before in
+    (at-loop .loop .inv .1 .holds, omega (arith, at-loop .loop .inv .0 .5, at-loop .loop .inv .1 .short, at-pre .pre .1))
 
 take-in-requires : tie.Need-take-in-requires Inv-loop μ-loop
-take-in-requires c κs = c .before .before .before .before .before .before .before .before .before .read-on .ensures .holds
+take-in-requires c κs =
+    let at-read-on = c .before .before .before .before .before .before .before .before .before in
+    at-read-on .read-on .ensures .holds
 
 loop-less : tie.Need-loop-less Inv-loop μ-loop
-loop-less c = omega (arith, c .before .before .before .before .before .before .before .before .before .before .before .before .before .before .before .before .before .before .before .before .before .before .before .before .before .before .loop-test .taken)
+loop-less c =
+    let at-loop-test = c .before .before .before .before .before .before .before .before .before .before .before
+    .before .before .before .before .before .before .before .before .before .before .before .before .before .before .before in
+    omega (arith, at-loop-test .loop-test .taken)
 
 loop-again : tie.Need-loop-again Inv-loop μ-loop
-loop-again c = ((c .before .before .before .before .before .before .before .before .before .before .before .before .before .before .take-in .kept .0 ∙ c .before .before .before .before .before .before .before .before .before .before .before .before .before .before .before .before .before .before .before .before .before .before .before .before .before .before .before .loop .inv .0 .0, c .before .before .before .before .before .before .before .before .before .before .before .before .before .before .take-in .kept .1 .0 ∙ c .before .before .before .before .before .before .before .before .before .before .before .before .before .before .before .before .before .before .before .before .before .before .before .before .before .before .before .loop .inv .0 .1, c .before .before .before .before .before .before .before .before .before .before .before .before .before .before .take-in .kept .1 .1 .0 ∙ c .before .before .before .before .before .before .before .before .before .before .before .before .before .before .before .before .before .before .before .before .before .before .before .before .before .before .before .loop .inv .0 .2, c .before .before .before .before .before .before .before .before .before .before .before .before .before .before .take-in .kept .1 .1 .1 .0 ∙ c .before .before .before .before .before .before .before .before .before .before .before .before .before .before .before .before .before .before .before .before .before .before .before .before .before .before .before .loop .inv .0 .3, c .before .before .before .before .before .before .before .before .before .before .before .before .before .before .take-in .kept .1 .1 .1 .1 .0 ∙ c .before .before .before .before .before .before .before .before .before .before .before .before .before .before .before .before .before .before .before .before .before .before .before .before .before .before .before .loop .inv .0 .4, c .before .before .before .before .before .before .before .before .before .before .before .before .before .before .before .before .before .before .before .before .before .before .before .before .read-on .kept .0 ∙ c .before .before .before .before .before .before .before .before .before .before .before .before .before .before .before .before .before .before .before .before .before .before .before .before .before .before .before .loop .inv .0 .5), turning-ends (c .before .before .before .before .before .before .before .before .before .before .before .before .before .before .before .before .before .before .before .before .before .before .before .before .before .before .before .loop .inv .1) (omega (arith, c .before .before .before .before .before .before .before .before .before .before .before .before .before .before .before .before .before .before .before .before .before .before .before .before .before .before .loop-test .taken)) (c .before .before .before .before .before .before .before .before .before .before .before .before .before .before .before .before .before .before .before .before .before .before .before .before .read-on .ensures) (c .before .before .before .before .before .before .before .before .before .before .before .before .before .before .take-in .ensures) (c .before .if1 .taken) (c .before .before .before .before .before .before .before .before .before .before .before .before .before .before .before .before .before .before .before .before .before .before .before .before .before .before .before .before .before .before .before .before .before .before .pre .0))
+loop-again c =
+    let at-take-in = c .before .before .before .before .before
+    .before .before .before .before .before .before .before .before .before in
+    let at-read-on = at-take-in .before .before .before .before .before .before .before .before .before .before in
+    let at-loop-test = at-read-on .before .before in
+    let at-loop = at-loop-test .before in
+    let at-pre = at-loop .before .before .before .before .before .before .before in (
+      (
+        at-take-in .take-in .kept .0 ∙ at-loop .loop .inv .0 .0,
+        at-take-in .take-in .kept .1 .0 ∙ at-loop .loop .inv .0 .1,
+        at-take-in .take-in .kept .1 .1 .0 ∙ at-loop .loop .inv .0 .2,
+        at-take-in .take-in .kept .1 .1 .1 .0 ∙ at-loop .loop .inv .0 .3,
+        at-take-in .take-in .kept .1 .1 .1 .1 .0 ∙ at-loop .loop .inv .0 .4,
+        at-read-on .read-on .kept .0 ∙ at-loop .loop .inv .0 .5,
+      ),
+      turning-ends (at-loop .loop .inv .1) (omega (arith, at-loop-test .loop-test .taken)) (at-read-on .read-on .ensures)
+          (at-take-in .take-in .ensures) (c .before .if1 .taken) (at-pre .pre .0),
+    )
 
 sub-turns : tie.Need-sub-turns Inv-loop μ-loop
-sub-turns c = omega (arith, c .before .before .before .before .before .before .before .before .before .before .before .before .before .before .before .before .before .before .before .before .before .before .before .before .before .loop-test .taken)
+sub-turns c =
+    let at-loop-test = c .before .before .before .before .before .before .before .before .before .before .before
+    .before .before .before .before .before .before .before .before .before .before .before .before .before .before in
+    omega (arith, at-loop-test .loop-test .taken)
 
 loop-less-2 : tie.Need-loop-less-2 Inv-loop μ-loop
-loop-less-2 c = omega (arith, c .before .before .before .before .before .before .before .before .before .before .before .before .before .before .before .before .before .before .before .before .before .before .before .before .before .loop-test .taken)
+loop-less-2 c =
+    let at-loop-test = c .before .before .before .before .before .before .before .before .before .before .before
+    .before .before .before .before .before .before .before .before .before .before .before .before .before .before in
+    omega (arith, at-loop-test .loop-test .taken)
 
 loop-again-2 : tie.Need-loop-again-2 Inv-loop μ-loop
-loop-again-2 c = ((c .before .before .before .before .before .before .before .before .before .before .before .before .before .take-in .kept .0 ∙ c .before .before .before .before .before .before .before .before .before .before .before .before .before .before .before .before .before .before .before .before .before .before .before .before .before .before .loop .inv .0 .0, c .before .before .before .before .before .before .before .before .before .before .before .before .before .take-in .kept .1 .0 ∙ c .before .before .before .before .before .before .before .before .before .before .before .before .before .before .before .before .before .before .before .before .before .before .before .before .before .before .loop .inv .0 .1, c .before .before .before .before .before .before .before .before .before .before .before .before .before .take-in .kept .1 .1 .0 ∙ c .before .before .before .before .before .before .before .before .before .before .before .before .before .before .before .before .before .before .before .before .before .before .before .before .before .before .loop .inv .0 .2, c .before .before .before .before .before .before .before .before .before .before .before .before .before .take-in .kept .1 .1 .1 .0 ∙ c .before .before .before .before .before .before .before .before .before .before .before .before .before .before .before .before .before .before .before .before .before .before .before .before .before .before .loop .inv .0 .3, c .before .before .before .before .before .before .before .before .before .before .before .before .before .take-in .kept .1 .1 .1 .1 .0 ∙ c .before .before .before .before .before .before .before .before .before .before .before .before .before .before .before .before .before .before .before .before .before .before .before .before .before .before .loop .inv .0 .4, c .before .before .before .before .before .before .before .before .before .before .before .before .before .before .before .before .before .before .before .before .before .before .before .read-on .kept .0 ∙ c .before .before .before .before .before .before .before .before .before .before .before .before .before .before .before .before .before .before .before .before .before .before .before .before .before .before .loop .inv .0 .5), turning-on (c .before .before .before .before .before .before .before .before .before .before .before .before .before .before .before .before .before .before .before .before .before .before .before .before .before .before .loop .inv .1) (omega (arith, c .before .before .before .before .before .before .before .before .before .before .before .before .before .before .before .before .before .before .before .before .before .before .before .before .before .loop-test .taken)) (c .before .before .before .before .before .before .before .before .before .before .before .before .before .before .before .before .before .before .before .before .before .before .before .read-on .ensures) (c .before .before .before .before .before .before .before .before .before .before .before .before .before .take-in .ensures) (c .if1 .left) _)
+loop-again-2 c =
+    let at-take-in = c .before .before .before .before .before .before .before .before .before .before .before .before .before in
+    let at-read-on = at-take-in .before .before .before .before .before .before .before .before .before .before in
+    let at-loop-test = at-read-on .before .before in
+    let at-loop = at-loop-test .before in (
+      (
+        at-take-in .take-in .kept .0 ∙ at-loop .loop .inv .0 .0,
+        at-take-in .take-in .kept .1 .0 ∙ at-loop .loop .inv .0 .1,
+        at-take-in .take-in .kept .1 .1 .0 ∙ at-loop .loop .inv .0 .2,
+        at-take-in .take-in .kept .1 .1 .1 .0 ∙ at-loop .loop .inv .0 .3,
+        at-take-in .take-in .kept .1 .1 .1 .1 .0 ∙ at-loop .loop .inv .0 .4,
+        at-read-on .read-on .kept .0 ∙ at-loop .loop .inv .0 .5,
+      ),
+      turning-on (at-loop .loop .inv .1) (omega (arith, at-loop-test .loop-test .taken)) (at-read-on .read-on .ensures)
+          (at-take-in .take-in .ensures) (c .if1 .left) _,
+    )
 
 same-length : tie.Need-same-length Inv-loop μ-loop
 same-length c = c .before .loop .inv .0 .0

@@ -22,13 +22,25 @@ same-length c = search needs
 
 returns : tie.Need-returns
 returns c =
-    (omega (arith, fits (c .before .before .before .before .before .before .before .before .before .before .before .before .before .before .pre .0 .merged) (c .before .before .before .before .before .save .ensures) (c .before .before .before .before .before .before .before .before .before .before .before .before .before .before .pre .1) _ (c .before .saved .given .1), c .before .before .before .before .before .save .kept), λ input waiting m. merges-written m (c .before .before .before .before .before .save .ensures) (c .before .before .before .before .before .before .before .before .before .before .before .before .before .before .pre .1) _ (c .before .saved .given .1))
+    let at-save = c .before .before .before .before .before in
+    let at-pre = at-save .before .before .before .before .before .before .before .before .before in (
+      omega (
+        arith,
+        fits (at-pre .pre .0 .merged) (at-save .save .ensures) (at-pre .pre .1) _ (c .before .saved .given .1),
+        at-save
+            .save .kept,
+      ),
+      λ input waiting m. merges-written m (at-save .save .ensures) (at-pre .pre .1) _ (c .before .saved .given .1),
+    )
 
 same-length-2 : tie.Need-same-length-2
 same-length-2 c = search needs
 
 returns-2 : tie.Need-returns-2
-returns-2 c = absurd (never-short (c .before .before .before .before .before .before .before .before .before .before .before .before .before .pre .0 .merged) (c .before .before .before .before .save .ensures) (c .before .before .before .before .before .before .before .before .before .before .before .before .before .pre .1) _ (c .enum-told .given .1))
+returns-2 c =
+    let at-save = c .before .before .before .before in
+    let at-pre = at-save .before .before .before .before .before .before .before .before .before in
+    absurd (never-short (at-pre .pre .0 .merged) (at-save .save .ensures) (at-pre .pre .1) _ (c .enum-told .given .1))
 
 pub whole-sheet-spec : {M : Type 1} → statement M
 whole-sheet-spec =

@@ -13,9 +13,9 @@ use Rattle.weigh.proofs.weigh_way.Kinds as weigh-way-kinds
 use Rattle.weigh.proofs.+weigh_way.Lts-weigh_way as weigh-way-lts
 use Rattle.counters.proofs.covered.Reads as covered-reads
 use Rattle.tables.proofs.past.Reads as past-reads
-use Rattle.weigh.proofs.carry.Reads as carry-reads
+use Rattle.weigh.proofs.sums.carry.Reads as carry-reads
 use Rattle.weigh.proofs.look.Reads as look-reads
-use Rattle.weigh.proofs.mark.Reads as mark-reads
+use Rattle.weigh.proofs.sums.mark.Reads as mark-reads
 use Rattle.weigh.proofs.weigh_last.Reads as weigh-last-reads
 use Rattle.weigh.proofs.weightless.Reads as weightless-reads
 use Rattle.weigh.proofs.+weigh_way.{statement}

@@ -1,0 +1,120 @@
+-- `sheet::listed::put_marks` meets its contract. The loop's invariant: what is written, and what is still to come.
+-- Assumes nothing.
+use Prim.Native.Nat.{_+_}
+use native.Mathlib.Omega.{arith}
+use mathlib.Core.Path.{_≡_, refl, ap}
+use Rattle.writers.proofs.Over.{Writing, last-room, same-long, wrote-as}
+use Rattle.sheet.proofs.Runs.{begun, write-room, write-fits, write-more, write-all}
+use Rattle.sheet.specs.Texts.{marksText, markText}
+use Rattle.meaning.specs.Sheet.{lineText, markLine}
+use borrow.Author.Needs.{needs}
+use Rattle.sheet.proofs.listed.put_marks.Statement.{statement}
+use Rattle.sheet.proofs.listed.put_marks.Tie as tie
+
+abbrev Inv-loop : tie.InvT-loop
+Inv-loop buf₀ marks from n t at₀ i₀ left₀ buf at i left = Writing (marksText marks from n) buf₀ (marksText marks i left) buf at
+    × (i + left ≡ from + n)
+
+abbrev μ-loop : tie.MeasureT-loop
+μ-loop buf₀ marks from n t at₀ i₀ left₀ buf at i left = left
+
+loop-holds : tie.Need-loop-holds Inv-loop μ-loop
+loop-holds c = (begun _ _ (c .before .before .pre .2), refl)
+
+sub-put-mark-line : tie.Need-sub-put-mark-line Inv-loop μ-loop
+sub-put-mark-line c = omega (arith, last-room (c .before .loop .inv .0))
+
+part-put-mark-line-start : tie.Need-part-put-mark-line-start Inv-loop μ-loop
+part-put-mark-line-start c = omega (arith, last-room (c .before .loop .inv .0))
+
+part-put-mark-line-end : tie.Need-part-put-mark-line-end Inv-loop μ-loop
+part-put-mark-line-end c = omega (arith, last-room (c .before .loop .inv .0))
+
+word-requires : tie.Need-word-requires Inv-loop μ-loop
+word-requires c κs = search needs
+
+put-mark-line-requires : tie.Need-put-mark-line-requires Inv-loop μ-loop
+put-mark-line-requires c κs =
+    let at-loop-test = c .before .before in
+    let at-loop = at-loop-test .before in
+    let at-pre = at-loop .before .before .before in (
+      at-pre .pre .0,
+      rw (c .word .ensures) (write-room (markText (at-pre .args .marks .now)) (λ i. i + 1) (at-loop .loop .i)
+          (at-loop .loop .left) (at-loop .loop .inv .0) (at-loop-test .loop-test .taken)),
+    )
+
+add-at : tie.Need-add-at Inv-loop μ-loop
+add-at c =
+    let at-put-mark-line = c .before .before in
+    let at-word = at-put-mark-line .before in
+    let at-loop-test = at-word .before .before in
+    let at-loop = at-loop-test .before in
+    let at-start = at-loop .before .before .before in
+    omega (
+      arith,
+      write-fits (markText (at-start .args .marks .now)) (λ i. i + 1) (at-loop .loop .i) (at-loop .loop .left)
+          (at-loop .loop .inv .0) (at-loop-test .loop-test .taken)
+          (wrote-as (ap (λ i. lineText (markLine i)) (at-word .word .ensures)) (at-put-mark-line .put-mark-line .ensures)),
+      same-long
+          (at-loop .loop .inv .0),
+    )
+
+add-i : tie.Need-add-i Inv-loop μ-loop
+add-i c =
+    let at-loop-test = c .before .before .before .before .before in
+    let at-loop = at-loop-test .before in
+    let at-pre = at-loop .before .before .before in
+    omega (arith, at-loop .loop .inv .1, at-loop-test .loop-test .taken, at-pre .pre .1)
+
+sub-left : tie.Need-sub-left Inv-loop μ-loop
+sub-left c =
+    let at-loop-test = c .before .before .before .before .before in
+    omega (arith, at-loop-test .loop-test .taken)
+
+loop-less : tie.Need-loop-less Inv-loop μ-loop
+loop-less c =
+    let at-loop-test = c .before .before .before .before .before in
+    omega (arith, at-loop-test .loop-test .taken)
+
+loop-again : tie.Need-loop-again Inv-loop μ-loop
+loop-again c =
+    let at-put-mark-line = c .before .before in
+    let at-word = at-put-mark-line .before in
+    let at-loop-test = at-word .before .before in
+    let at-loop = at-loop-test .before in
+    let at-start = at-loop .before .before .before in (
+      write-more (markText (at-start .args .marks .now)) (λ i. i + 1) (at-loop .loop .i) (at-loop .loop .left)
+          (at-loop .loop .inv .0) (at-loop-test .loop-test .taken)
+          (wrote-as (ap (λ i. lineText (markLine i)) (at-word .word .ensures)) (at-put-mark-line .put-mark-line .ensures)),
+      omega
+          (arith, at-loop .loop .inv .1, at-loop-test .loop-test .taken),
+    )
+
+same-length : tie.Need-same-length Inv-loop μ-loop
+same-length c = same-long (c .before .loop .inv .0)
+
+returns : tie.Need-returns Inv-loop μ-loop
+returns c =
+    let at-start = c .before .before .before .before in
+    write-all (markText (at-start .args .marks .now)) (λ i. i + 1) (c .before .loop .i) (c .before .loop .left)
+    (c .before .loop .inv .0) (c .loop-test .left)
+
+pub put-marks-spec : {M : Type 1} → statement M
+put-marks-spec =
+    tie.close
+    (tie.spec
+    Inv-loop
+    μ-loop
+    loop-holds
+    sub-put-mark-line
+    part-put-mark-line-start
+    part-put-mark-line-end
+    word-requires
+    put-mark-line-requires
+    add-at
+    add-i
+    sub-left
+    loop-less
+    loop-again
+    same-length
+    returns)

@@ -1,0 +1,110 @@
+-- `sheet::listed::put_values` meets its contract. The loop's invariant: what is written, and what is still to come.
+-- Assumes nothing.
+use Prim.Native.Nat.{_+_}
+use native.Mathlib.Omega.{arith}
+use mathlib.Core.Path.{_≡_, refl}
+use Rattle.writers.proofs.Over.{Writing, last-room, same-long}
+use Rattle.sheet.proofs.Runs.{begun, write-room, write-fits, write-more, write-all}
+use Rattle.sheet.specs.Texts.{valuesText, valueText}
+use Rattle.sheet.proofs.listed.put_values.Statement.{statement}
+use Rattle.sheet.proofs.listed.put_values.Tie as tie
+
+abbrev Inv-loop : tie.InvT-loop
+Inv-loop buf₀ values from n t at₀ i₀ left₀ buf at i left = Writing (valuesText values from n) buf₀ (valuesText values i left) buf at
+    × (i + left ≡ from + n)
+
+abbrev μ-loop : tie.MeasureT-loop
+μ-loop buf₀ values from n t at₀ i₀ left₀ buf at i left = left
+
+loop-holds : tie.Need-loop-holds Inv-loop μ-loop
+loop-holds c = (begun _ _ (c .before .before .pre .2), refl)
+
+sub-put-value : tie.Need-sub-put-value Inv-loop μ-loop
+sub-put-value c = omega (arith, last-room (c .before .loop .inv .0))
+
+part-put-value-start : tie.Need-part-put-value-start Inv-loop μ-loop
+part-put-value-start c = omega (arith, last-room (c .before .loop .inv .0))
+
+part-put-value-end : tie.Need-part-put-value-end Inv-loop μ-loop
+part-put-value-end c = omega (arith, last-room (c .before .loop .inv .0))
+
+put-value-requires : tie.Need-put-value-requires Inv-loop μ-loop
+put-value-requires c κs =
+    let at-loop = c .before .before in
+    let at-pre = at-loop .before .before .before in (
+      at-pre .pre .0,
+      omega (arith, at-loop .loop .inv .1, c .before .loop-test .taken, at-pre .pre .1),
+      write-room
+          (valueText (at-pre .args .values .now)) (λ i. i + 1) (at-loop .loop .i) (at-loop .loop .left) (at-loop .loop .inv .0)
+          (c .before .loop-test .taken),
+    )
+
+add-at : tie.Need-add-at Inv-loop μ-loop
+add-at c =
+    let at-put-value = c .before .before in
+    let at-loop-test = at-put-value .before .before in
+    let at-loop = at-loop-test .before in
+    let at-start = at-loop .before .before .before in
+    omega (
+      arith,
+      write-fits (valueText (at-start .args .values .now)) (λ i. i + 1) (at-loop .loop .i) (at-loop .loop .left)
+          (at-loop .loop .inv .0) (at-loop-test .loop-test .taken) (at-put-value .put-value .ensures),
+      same-long (at-loop .loop .inv .0),
+    )
+
+add-i : tie.Need-add-i Inv-loop μ-loop
+add-i c =
+    let at-loop-test = c .before .before .before .before in
+    let at-loop = at-loop-test .before in
+    let at-pre = at-loop .before .before .before in
+    omega (arith, at-loop .loop .inv .1, at-loop-test .loop-test .taken, at-pre .pre .1)
+
+sub-left : tie.Need-sub-left Inv-loop μ-loop
+sub-left c =
+    let at-loop-test = c .before .before .before .before in
+    omega (arith, at-loop-test .loop-test .taken)
+
+loop-less : tie.Need-loop-less Inv-loop μ-loop
+loop-less c =
+    let at-loop-test = c .before .before .before .before in
+    omega (arith, at-loop-test .loop-test .taken)
+
+loop-again : tie.Need-loop-again Inv-loop μ-loop
+loop-again c =
+    let at-put-value = c .before .before in
+    let at-loop-test = at-put-value .before .before in
+    let at-loop = at-loop-test .before in
+    let at-start = at-loop .before .before .before in (
+      write-more (valueText (at-start .args .values .now)) (λ i. i + 1) (at-loop .loop .i) (at-loop .loop .left)
+          (at-loop .loop .inv .0) (at-loop-test .loop-test .taken) (at-put-value .put-value .ensures),
+      omega
+          (arith, at-loop .loop .inv .1, at-loop-test .loop-test .taken),
+    )
+
+same-length : tie.Need-same-length Inv-loop μ-loop
+same-length c = same-long (c .before .loop .inv .0)
+
+returns : tie.Need-returns Inv-loop μ-loop
+returns c =
+    let at-start = c .before .before .before .before in
+    write-all (valueText (at-start .args .values .now)) (λ i. i + 1) (c .before .loop .i) (c .before .loop .left)
+    (c .before .loop .inv .0) (c .loop-test .left)
+
+pub put-values-spec : {M : Type 1} → statement M
+put-values-spec =
+    tie.close
+    (tie.spec
+    Inv-loop
+    μ-loop
+    loop-holds
+    sub-put-value
+    part-put-value-start
+    part-put-value-end
+    put-value-requires
+    add-at
+    add-i
+    sub-left
+    loop-less
+    loop-again
+    same-length
+    returns)

@@ -1,0 +1,189 @@
+// The lines of marks, values and rows, one after another.
+use crate::parts::place_size;
+use crate::parts::put_place;
+use crate::parts::put_value;
+use crate::parts::value_size;
+use lines::mark_line_size;
+use lines::put_mark_line;
+use tables::Stop;
+use tables::past;
+use tables::word;
+ghost use mathlib.Core.Path.{_≡_};
+ghost use Prim.Native.Nat.{_+_, _*_, _≤_, _<_};
+ghost use lib.ListN.{length};
+ghost use Rattle.decimal.specs.Powers.{powers};
+ghost use Rattle.decimal.specs.Take.{Wrote};
+ghost use Rattle.writers.specs.Sized.{Sized};
+ghost use Rattle.tables.specs.Standing.{first};
+ghost use Rattle.tables.specs.Holding.{four};
+ghost use Rattle.sheet.specs.Texts.{marksText, valuesText, rowText, rowsText, Near};
+
+// The lines of n marks, from one on.
+
+fn marks_size(marks: &[u64], from: usize, n: usize, t: &[u64; 20]) -> usize
+    requires { ⌜ (now t ≡ powers) × (from + n < 1000000) ⌝ }
+    ensures { λ r. ⌜ Sized (marksText (now (marks .entry)) from n) (47 * n) r ⌝ }
+{
+    let mut sum: usize = 0;
+    let mut i = from;
+    let mut left = n;
+    while 0 < left {
+        sum += mark_line_size(word(marks, i), t);
+        i += 1;
+        left -= 1;
+    }
+    sum
+}
+
+fn put_marks(buf: &mut [u8], marks: &[u64], from: usize, n: usize, t: &[u64; 20]) -> usize
+    requires { ⌜ (now t ≡ powers) × (from + n < 1000000) × (length (marksText (now marks) from n) ≤ length (now buf)) ⌝ }
+    ensures { λ r. ⌜ Wrote (marksText (now (marks .entry)) from n) (now (buf .entry)) (now (buf .exit)) r ⌝ }
+{
+    let mut at: usize = 0;
+    let mut i = from;
+    let mut left = n;
+    while 0 < left {
+        at += put_mark_line(&mut buf[at..], word(marks, i), t);
+        i += 1;
+        left -= 1;
+    }
+    at
+}
+
+// The lines of n values, from one on.
+
+fn values_size(values: &[u64], from: usize, n: usize, t: &[u64; 20]) -> usize
+    requires { ⌜ (now t ≡ powers) × (from + n < 1000000) ⌝ }
+    ensures { λ r. ⌜ Sized (valuesText (now (values .entry)) from n) (114 * n) r ⌝ }
+{
+    let mut sum: usize = 0;
+    let mut i = from;
+    let mut left = n;
+    while 0 < left {
+        sum += value_size(values, i, t);
+        i += 1;
+        left -= 1;
+    }
+    sum
+}
+
+fn put_values(buf: &mut [u8], values: &[u64], from: usize, n: usize, t: &[u64; 20]) -> usize
+    requires { ⌜ (now t ≡ powers) × (from + n < 1000000) × (length (valuesText (now values) from n) ≤ length (now buf)) ⌝ }
+    ensures { λ r. ⌜ Wrote (valuesText (now (values .entry)) from n) (now (buf .entry)) (now (buf .exit)) r ⌝ }
+{
+    let mut at: usize = 0;
+    let mut i = from;
+    let mut left = n;
+    while 0 < left {
+        at += put_value(&mut buf[at..], values, i, t);
+        i += 1;
+        left -= 1;
+    }
+    at
+}
+
+// The lines of a row: its place, its marks, its values.
+
+fn row_size(
+    heads: &[u64],
+    keys: &[u64],
+    marks: &[u64],
+    values: &[u64],
+    s: Stop,
+    t: &[u64; 20],
+) -> usize
+    requires { ⌜ (now t ≡ powers) × Near s ⌝ }
+    ensures { λ r. ⌜ Sized (rowText (four (now (heads .entry)) (now (keys .entry)) (now (marks .entry)) (now (values .entry))) s)
+        154533 r ⌝ }
+{
+    let h = word(heads, s.row);
+    let a = place_size(h, keys, s.row, t);
+    let b = marks_size(marks, s.mark, (h / 128 % 2048) as usize, t);
+    let c = values_size(values, s.value, (h / 262144 % 512) as usize, t);
+    a + b + c
+}
+
+fn put_row(
+    buf: &mut [u8],
+    heads: &[u64],
+    keys: &[u64],
+    marks: &[u64],
+    values: &[u64],
+    s: Stop,
+    t: &[u64; 20],
+) -> usize
+    requires { ⌜ (now t ≡ powers) × Near s
+        × (length (rowText (four (now heads) (now keys) (now marks) (now values)) s) ≤ length (now buf)) ⌝ }
+    ensures { λ r. ⌜ Wrote (rowText (four (now (heads .entry)) (now (keys .entry)) (now (marks .entry)) (now (values .entry))) s)
+        (now (buf .entry)) (now (buf .exit)) r ⌝ }
+{
+    let h = word(heads, s.row);
+    let a = put_place(buf, h, keys, s.row, t);
+    let b = a + put_marks(&mut buf[a..], marks, s.mark, (h / 128 % 2048) as usize, t);
+    b
+        + put_values(
+            &mut buf[b..],
+            values,
+            s.value,
+            (h / 262144 % 512) as usize,
+            t,
+        )
+}
+
+// The lines of all rows.
+
+pub fn rows_size(
+    heads: &[u64],
+    keys: &[u64],
+    marks: &[u64],
+    values: &[u64],
+    rows: usize,
+    t: &[u64; 20],
+) -> usize
+    requires { ⌜ (now t ≡ powers) × (rows ≤ 264) ⌝ }
+    ensures { λ r. ⌜ Sized (rowsText (four (now (heads .entry)) (now (keys .entry)) (now (marks .entry)) (now (values .entry))) first rows)
+        (154533 * rows) r ⌝ }
+{
+    let mut sum: usize = 0;
+    let mut s = Stop {
+        row: 0,
+        mark: 0,
+        value: 0,
+    };
+    let mut left = rows;
+    while 0 < left {
+        sum += row_size(heads, keys, marks, values, s, t);
+        s = past(heads, s);
+        left -= 1;
+    }
+    sum
+}
+
+pub fn put_rows(
+    buf: &mut [u8],
+    heads: &[u64],
+    keys: &[u64],
+    marks: &[u64],
+    values: &[u64],
+    rows: usize,
+    t: &[u64; 20],
+) -> usize
+    requires { ⌜ (now t ≡ powers) × (rows ≤ 264)
+        × (length (rowsText (four (now heads) (now keys) (now marks) (now values)) first rows) ≤ length (now buf)) ⌝ }
+    ensures { λ r. ⌜ Wrote (rowsText (four (now (heads .entry)) (now (keys .entry)) (now (marks .entry)) (now (values .entry))) first rows)
+        (now (buf .entry)) (now (buf .exit)) r ⌝ }
+{
+    let mut at: usize = 0;
+    let mut s = Stop {
+        row: 0,
+        mark: 0,
+        value: 0,
+    };
+    let mut left = rows;
+    while 0 < left {
+        at += put_row(&mut buf[at..], heads, keys, marks, values, s, t);
+        s = past(heads, s);
+        left -= 1;
+    }
+    at
+}

@@ -1,0 +1,123 @@
+// A place line and a value line, of a row's words.
+use lines::Spot;
+use lines::place_line_size;
+use lines::put_place_line;
+use lines::put_value_line;
+use lines::value_line_size;
+use tables::word;
+use writers::Kind;
+ghost use mathlib.Core.Path.{_≡_};
+ghost use Prim.Native.Nat.{_≤_, _<_};
+ghost use lib.ListN.{length};
+ghost use Rattle.decimal.specs.Powers.{powers};
+ghost use Rattle.decimal.specs.Take.{Wrote};
+ghost use Rattle.writers.specs.Held.{InBounds};
+ghost use Rattle.writers.specs.Sized.{Sized};
+ghost use Rattle.lines.specs.Spots.{ShortKey};
+ghost use Rattle.sheet.specs.Texts.{kindIn, spotIn, placeText, valueText};
+
+// The kind of a value by its word, and by the number that it is.
+fn kind_of(kind: u64, n: u64) -> Kind
+    ensures { λ r. ⌜ (r ≡ kindIn kind n) × InBounds r ⌝ }
+{
+    if kind == 1 {
+        return Kind::True;
+    }
+    if kind == 2 {
+        return Kind::False;
+    }
+    if kind == 3 {
+        if 9223372036854775807 < n {
+            return Kind::Null;
+        }
+        return Kind::NonNeg(n);
+    }
+    if kind == 4 {
+        if 9223372036854775807 < n {
+            return Kind::Null;
+        }
+        return Kind::Neg(n);
+    }
+    if kind < 5 {
+        return Kind::Null;
+    }
+    if 37 < kind {
+        return Kind::Null;
+    }
+    Kind::String(kind - 5)
+}
+
+// Where a row hangs, by its side and its key's words.
+fn spot_of(side: u64, hi: u64, lo: u64, len: u64) -> Spot
+    ensures { λ r. ⌜ (r ≡ spotIn side (record { hi = hi; lo = lo; len = len })) × ShortKey r ⌝ }
+{
+    if side == 1 {
+        return Spot::Element { id: hi };
+    }
+    if 16 < len {
+        return Spot::Key { hi, lo, len: 0 };
+    }
+    Spot::Key { hi, lo, len }
+}
+
+// The place line of a row, of its head and its key.
+
+pub fn place_size(h: u64, keys: &[u64], row: usize, t: &[u64; 20]) -> usize
+    requires { ⌜ (now t ≡ powers) × (row < 264) ⌝ }
+    ensures { λ r. ⌜ Sized (placeText h (now (keys .entry)) row) 70 r ⌝ }
+{
+    let spot = spot_of(
+        h / 16 % 2,
+        word(keys, 3 * row),
+        word(keys, 3 * row + 1),
+        word(keys, 3 * row + 2),
+    );
+    place_line_size(h % 16, spot, h / 32 % 2 == 1, h / 64 % 2 == 1, t)
+}
+
+pub fn put_place(buf: &mut [u8], h: u64, keys: &[u64], row: usize, t: &[u64; 20]) -> usize
+    requires { ⌜ (now t ≡ powers) × (row < 264) × (length (placeText h (now keys) row) ≤ length (now buf)) ⌝ }
+    ensures { λ r. ⌜ Wrote (placeText h (now (keys .entry)) row) (now (buf .entry)) (now (buf .exit)) r ⌝ }
+{
+    let spot = spot_of(
+        h / 16 % 2,
+        word(keys, 3 * row),
+        word(keys, 3 * row + 1),
+        word(keys, 3 * row + 2),
+    );
+    put_place_line(buf, h % 16, spot, h / 32 % 2 == 1, h / 64 % 2 == 1, t)
+}
+
+// The line of a value, of its six words.
+
+pub fn value_size(values: &[u64], i: usize, t: &[u64; 20]) -> usize
+    requires { ⌜ (now t ≡ powers) × (i < 1000000) ⌝ }
+    ensures { λ r. ⌜ Sized (valueText (now (values .entry)) i) 114 r ⌝ }
+{
+    let a = 6 * i;
+    let n = word(values, a + 2);
+    let kind = kind_of(word(values, a + 1), n);
+    let words = [
+        n,
+        word(values, a + 3),
+        word(values, a + 4),
+        word(values, a + 5),
+    ];
+    value_line_size(word(values, a), kind, words, t)
+}
+
+pub fn put_value(buf: &mut [u8], values: &[u64], i: usize, t: &[u64; 20]) -> usize
+    requires { ⌜ (now t ≡ powers) × (i < 1000000) × (length (valueText (now values) i) ≤ length (now buf)) ⌝ }
+    ensures { λ r. ⌜ Wrote (valueText (now (values .entry)) i) (now (buf .entry)) (now (buf .exit)) r ⌝ }
+{
+    let a = 6 * i;
+    let n = word(values, a + 2);
+    let kind = kind_of(word(values, a + 1), n);
+    let words = [
+        n,
+        word(values, a + 3),
+        word(values, a + 4),
+        word(values, a + 5),
+    ];
+    put_value_line(buf, word(values, a), kind, words, t)
+}

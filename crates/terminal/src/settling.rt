@@ -1,0 +1,179 @@
+// Document 01, "What is answered", last paragraph: the waiting messages are settled, in rounds.
+use crate::Rounded;
+use crate::Settled;
+use crate::State;
+use crate::Swept;
+use crate::sorts::is_dead;
+use operate::Judged;
+use operate::is_taken;
+ghost use Rattle.tables.specs.Holding.{four};
+ghost use Rattle.terminal.specs.Settling.{Looks, Sweeps, Rounds, Settles};
+
+// The verdict on the operation that waits at i. The id and one entry of deps tell of most that they aren't ready: only where that entry is
+// the seen one are the others read, and only of a ready one the rest.
+fn look(
+    heads: &[u64],
+    keys: &[u64],
+    marks: &[u64],
+    values: &[u64],
+    waiting: &[u64],
+    s: State,
+    i: usize,
+) -> Judged
+    ensures { λ r. ⌜ Looks (four (now (heads .entry)) (now (keys .entry)) (now (marks .entry)) (now (values .entry)))
+        (now (waiting .entry)) s i r ⌝ }
+{
+    let n = s.waiting;
+    let seen = s.seen;
+    let counts = s.counts;
+    let id = waiting::id_at(waiting, n, i);
+    if counters::repeated(seen, id) {
+        return Judged::Repeat;
+    }
+    let own = waiting::own_at(waiting, n, i);
+    let last = counters::entry(seen, id % 8);
+    if own < last {
+        return Judged::OwnDeps;
+    }
+    if last < own {
+        return Judged::Early;
+    }
+    let deps = waiting::deps_at(waiting, n, i);
+    if !counters::at_most(deps, seen) {
+        return Judged::Early;
+    }
+    let op = waiting::op_at(waiting, n, i);
+    operate::judge(heads, keys, marks, values, counts, seen, op)
+}
+
+// Drops the dead, and finds the first that can be applied.
+fn sweep(
+    heads: &[u64],
+    keys: &[u64],
+    marks: &[u64],
+    values: &[u64],
+    waiting: &mut [u64],
+    s: State,
+) -> Swept
+    ensures { λ r. ⌜ Sweeps (four (now (heads .entry)) (now (keys .entry)) (now (marks .entry)) (now (values .entry)))
+        (now (waiting .entry)) s r
+        (now (waiting .exit)) ⌝ }
+{
+    let mut state = s;
+    let mut found = false;
+    let mut able: usize = 0;
+    let mut i: usize = 0;
+    while i < state.waiting {
+        let j = look(heads, keys, marks, values, waiting, state, i);
+        if is_dead(j) {
+            let n = state.waiting;
+            let left = waiting::take_out(waiting, n, i);
+            if left >= n {
+                return Swept {
+                    state,
+                    found: false,
+                    able: 0,
+                };
+            }
+            state.waiting = left;
+        } else {
+            let at = i;
+            i += 1;
+            if !found {
+                found = is_taken(j);
+                able = at;
+            }
+        }
+    }
+    Swept { state, found, able }
+}
+
+// Drops the dead, and applies the first that can be applied.
+fn round(
+    heads: &mut [u64],
+    keys: &mut [u64],
+    marks: &mut [u64],
+    values: &mut [u64],
+    waiting: &mut [u64],
+    s: State,
+) -> Rounded
+    ensures { λ r. ⌜ Rounds (four (now (heads .entry)) (now (keys .entry)) (now (marks .entry)) (now (values .entry)))
+        (now (waiting .entry)) s r
+        (four (now (heads .exit)) (now (keys .exit)) (now (marks .exit)) (now (values .exit))) (now (waiting .exit)) ⌝ }
+{
+    let w = sweep(heads, keys, marks, values, waiting, s);
+    let state = w.state;
+    let n = state.waiting;
+    let dropped = (s.waiting - n) as u64;
+    if !w.found {
+        return Rounded {
+            state,
+            applied: false,
+            dropped,
+        };
+    }
+    let i = w.able;
+    let op = waiting::op_at(waiting, n, i);
+    let left = waiting::take_out(waiting, n, i);
+    if left >= n {
+        return Rounded {
+            state,
+            applied: false,
+            dropped,
+        };
+    }
+    let c = state.counts;
+    let seen = state.seen;
+    let o = operate::take(heads, keys, marks, values, c, seen, op);
+    let counts = o.counts;
+    let after = o.seen;
+    let next = State {
+        counts,
+        seen: after,
+        waiting: left,
+    };
+    Rounded {
+        state: next,
+        applied: true,
+        dropped,
+    }
+}
+
+// Rounds, until one applies nothing.
+pub fn settle(
+    heads: &mut [u64],
+    keys: &mut [u64],
+    marks: &mut [u64],
+    values: &mut [u64],
+    waiting: &mut [u64],
+    s: State,
+) -> Settled
+    ensures { λ r. ⌜ Settles (four (now (heads .entry)) (now (keys .entry)) (now (marks .entry)) (now (values .entry)))
+        (now (waiting .entry)) s r
+        (four (now (heads .exit)) (now (keys .exit)) (now (marks .exit)) (now (values .exit))) (now (waiting .exit)) ⌝ }
+{
+    if s.waiting > 64 {
+        return Settled {
+            state: s,
+            applied: 0,
+            dropped: 0,
+        };
+    }
+    let mut state = s;
+    let mut applied: u64 = 0;
+    let mut dropped: u64 = 0;
+    loop {
+        let r = round(heads, keys, marks, values, waiting, state);
+        let next = r.state;
+        state = next;
+        dropped += r.dropped;
+        if !r.applied {
+            return Settled {
+                state,
+                applied,
+                dropped,
+            };
+        }
+        applied += 1;
+    }
+}

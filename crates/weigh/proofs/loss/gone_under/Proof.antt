@@ -1,0 +1,105 @@
+-- `weigh::loss::gone_under` meets its contract: the rows before the place have been counted. Assumes nothing.
+use Prim.Native.Nat.{_-_}
+use native.Mathlib.Omega.{arith}
+use borrow.Author.Needs.{needs}
+use Rattle.weigh.proofs.Goes.{Going, under-none, going-start, going-end, going-out, going-stop, going-on}
+use Rattle.weigh.proofs.loss.gone_under.Statement.{statement}
+use Rattle.weigh.proofs.loss.gone_under.Tie as tie
+
+abbrev Inv-loop : tie.InvT-loop
+Inv-loop heads marks values rows n d at₀ sum₀ at sum = Going heads marks values rows at₀ n (d .at) at sum
+
+abbrev μ-loop : tie.MeasureT-loop
+μ-loop heads marks values rows n d at₀ sum₀ at sum = rows - at .row
+
+returns : tie.Need-returns Inv-loop μ-loop
+returns c = under-none _ _ _ _ _ _ _ (λ t q h. omega (arith, q, h .few, h .row, h .mark, h .value))
+
+returns-2 : tie.Need-returns-2 Inv-loop μ-loop
+returns-2 c = under-none _ _ _ _ _ _ _ (λ t q h. omega (arith, q, h .few, h .row, h .mark, h .value))
+
+returns-3 : tie.Need-returns-3 Inv-loop μ-loop
+returns-3 c = under-none _ _ _ _ _ _ _ (λ t q h. omega (arith, q, h .few, h .row, h .mark, h .value))
+
+returns-4 : tie.Need-returns-4 Inv-loop μ-loop
+returns-4 c = under-none _ _ _ _ _ _ _ (λ t q h. omega (arith, q, h .few, h .row, h .mark, h .value))
+
+loop-holds : tie.Need-loop-holds Inv-loop μ-loop
+loop-holds c =
+    let at-if3 = c .before .before in
+    let at-if2 = at-if3 .before .before in
+    let at-if1 = at-if2 .before .before in
+    going-start _ _ _ _ _ _ _ (at-if1 .if1 .left) (at-if2 .if2 .left) (at-if3 .if3 .left) (c .if4 .left)
+
+returns-5 : tie.Need-returns-5 Inv-loop μ-loop
+returns-5 c =
+    let at-loop = c .before .before .before in
+    going-out _ _ _ _ _ _ _ _ _ (at-loop .loop .inv) (c .if6 .taken)
+
+mul-h : tie.Need-mul-h Inv-loop μ-loop
+mul-h c = search needs
+
+shared-slice-read-h : tie.Need-shared-slice-read-h Inv-loop μ-loop
+shared-slice-read-h c = search needs
+
+returns-6 : tie.Need-returns-6 Inv-loop μ-loop
+returns-6 c =
+    let at-loop = c .before .before .before .before .before in
+    going-stop _ _ _ _ _ _ _ _ _ (at-loop .loop .inv) (c .if7 .taken)
+
+gone-row-requires : tie.Need-gone-row-requires Inv-loop μ-loop
+gone-row-requires c κs = search needs
+
+add-t15 : tie.Need-add-t15 Inv-loop μ-loop
+add-t15 c = search needs
+
+add-t18 : tie.Need-add-t18 Inv-loop μ-loop
+add-t18 c = search needs
+
+add-t15-2 : tie.Need-add-t15-2 Inv-loop μ-loop
+add-t15-2 c = search needs
+
+add-t20 : tie.Need-add-t20 Inv-loop μ-loop
+add-t20 c = search needs
+
+add-t24 : tie.Need-add-t24 Inv-loop μ-loop
+add-t24 c = search needs
+
+loop-less : tie.Need-loop-less Inv-loop μ-loop
+loop-less c = search needs
+
+loop-again : tie.Need-loop-again Inv-loop μ-loop
+loop-again c =
+    let at-gone-row = c .before .before .before .before .before .before in
+    let at-if7 = at-gone-row .before in
+    let at-if5 = at-if7 .before .before .before in
+    let at-loop = at-if5 .before .before in
+    going-on _ _ _ _ _ _ _ _ _ (at-loop .loop .inv) (at-if5 .if5 .taken) (at-if7 .if7 .left) _ (at-gone-row .gone-row .ensures)
+
+returns-7 : tie.Need-returns-7 Inv-loop μ-loop
+returns-7 c = going-end _ _ _ _ _ _ _ _ _ (c .before .before .loop .inv) (c .if5 .left)
+
+pub gone-under-spec : {M : Type 1} → statement M
+gone-under-spec =
+    tie.close
+    (tie.spec
+    Inv-loop
+    μ-loop
+    returns
+    returns-2
+    returns-3
+    returns-4
+    loop-holds
+    returns-5
+    mul-h
+    shared-slice-read-h
+    returns-6
+    gone-row-requires
+    add-t15
+    add-t18
+    add-t15-2
+    add-t20
+    add-t24
+    loop-less
+    loop-again
+    returns-7)

@@ -1,0 +1,66 @@
+-- `weigh::sums::carry` meets its contract, by its cases. Assumes nothing.
+use borrow.Author.Needs.{needs}
+use borrow.Author.Tests.{not-true, not-false}
+use mathlib.Core.Path.{_∙_}
+use Rattle.weigh.specs.Weighs.{carried}
+use Rattle.weigh.proofs.sums.carry.Statement.{statement}
+use Rattle.weigh.proofs.sums.carry.Tie as tie
+
+returns : tie.Need-returns
+unfolding carried
+returns c =
+    let at-if1 = c .before .before in
+    let at-start = at-if1 .before in
+    rw (at-if1 .if1 .taken, c .before .if2 .taken, not-true (at-start .args .covers) (c .if3 .taken))
+
+returns-2 : tie.Need-returns-2
+unfolding carried
+returns-2 c =
+    let at-if1 = c .before .before in
+    let at-start = at-if1 .before in
+    rw (at-if1 .if1 .taken, c .before .if2 .taken, not-false (at-start .args .covers) (c .if3 .left))
+
+returns-3 : tie.Need-returns-3
+unfolding carried
+returns-3 c = rw (c .before .if1 .taken, c .if2 .left)
+
+weightless-requires : tie.Need-weightless-requires
+weightless-requires c κs = search needs
+
+returns-4 : tie.Need-returns-4
+unfolding carried
+returns-4 c = c .weightless .ensures ∙ rw (c .before .before .if1 .left, c .before .if4 .taken)
+
+add-t9 : tie.Need-add-t9
+add-t9 c = search needs
+
+returns-5 : tie.Need-returns-5
+unfolding carried
+returns-5 c =
+    let at-if4 = c .before .before in
+    let at-if1 = at-if4 .before in
+    rw (at-if1 .if1 .left, at-if4 .if4 .left, c .before .if5 .taken)
+
+weightless-requires-2 : tie.Need-weightless-requires-2
+weightless-requires-2 c κs = search needs
+
+returns-6 : tie.Need-returns-6
+unfolding carried
+returns-6 c =
+    let at-if4 = c .before .before in
+    let at-if1 = at-if4 .before in
+    c .weightless2 .ensures ∙ rw (at-if1 .if1 .left, at-if4 .if4 .left, c .before .if5 .left)
+
+pub carry-spec : {M : Type 1} → statement M
+carry-spec =
+    tie.close
+    (tie.spec
+    returns
+    returns-2
+    returns-3
+    weightless-requires
+    returns-4
+    add-t9
+    returns-5
+    weightless-requires-2
+    returns-6)
