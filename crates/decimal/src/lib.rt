@@ -5,6 +5,7 @@ ghost use Prim.Native.Nat.{_^_, _≤_, _<_};
 ghost use lib.ListN.{length};
 ghost use Rattle.meaning.specs.Text.{decimal};
 ghost use Rattle.decimal.specs.Take.{Wrote};
+ghost use Rattle.decimal.specs.Powers.{powers as powersOfTen};
 ghost use Rattle.decimal.specs.Numbers.{numbers, ReadsNumber, Spells};
 
 const POWERS: [u64; 20] = [

@@ -3,6 +3,7 @@
 use stream::Cut;
 use stream::Step;
 use terminal::State;
+ghost use mathlib.Core.Path.{_≡_};
 ghost use Rattle.tables.specs.Holding.{four};
 ghost use Rattle.stream.specs.Pieces.{Holds};
 ghost use Rattle.feed.specs.Feeding.{OneFed, AllFed};

@@ -3,7 +3,7 @@
 ghost use mathlib.Core.Path.{_≡_};
 ghost use Prim.Native.Nat.{_≤_};
 ghost use lib.ListN.{length, drop};
-ghost use Rattle.stream.specs.Ends.{startsWith, Ends};
+ghost use Rattle.stream.specs.Ends.{startsWith, opens, Ends};
 ghost use Rattle.stream.specs.Pieces.{Holds, Steps, Moved};
 ghost use Rattle.stream.specs.Steps.{handed, waiting};
 

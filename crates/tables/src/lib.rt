@@ -2,7 +2,8 @@
 // Rows stand in the sheet's order. `heads` has a word a row: depth, side, flags, and how many marks and values the row has; `keys`
 // three words a row; `marks` the ids that mark the rows, row after row; `values` six words a value, row after row.
 ghost use mathlib.Core.Path.{_≡_};
-ghost use lib.ListN.{getD};
+ghost use Prim.Native.Nat.{_+_, _*_, _-_, _≤_, _<_};
+ghost use lib.ListN.{length, getD};
 ghost use Rattle.tables.specs.Seek.{turn, turnNumber, passesOne, goesOver, isWanted, Passes, Searches, holdsIf, sought};
 ghost use Rattle.tables.specs.Wants.{wantOf};
 ghost use Rattle.tables.specs.Stands.{FindsIn, Knows};

@@ -1,5 +1,5 @@
--- `readers::hex::take_word` meets its contract. The loop's invariant, `Part`: `len` bytes stand from a to n, `word` holds them, and `weight`
--- is what the
+-- `readers::hex::take_word` meets its contract. The loop's invariant, `Part`: `len` bytes stand from a to n, `word` holds them, and
+-- `weight` is what the
 -- next one weighs.
 -- Assumes nothing.
 use Prim.Native.Nat.{_-_}
