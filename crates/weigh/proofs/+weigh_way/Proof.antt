@@ -17,7 +17,7 @@ use Rattle.weigh.proofs.sums.carry.Reads as carry-reads
 use Rattle.weigh.proofs.look.Reads as look-reads
 use Rattle.weigh.proofs.sums.mark.Reads as mark-reads
 use Rattle.weigh.proofs.weigh_last.Reads as weigh-last-reads
-use Rattle.weigh.proofs.weightless.Reads as weightless-reads
+use Rattle.weigh.proofs.sums.weightless.Reads as weightless-reads
 use Rattle.weigh.proofs.+weigh_way.{statement}
 use Rattle.weigh.proofs.+weigh_way.Tie.{close}
 
