@@ -8,7 +8,8 @@ ghost use Rattle.meaning.specs.Judge as Judge;
 ghost use Rattle.meaning.specs.Ways.{Operation};
 ghost use Rattle.counters.specs.Counted.{raised, Says};
 
-fn wide(x: u32) -> u64
+// A counter as a word.
+pub fn wide(x: u32) -> u64
     ensures { λ r. ⌜ r ≡ x ⌝ }
 {
     x as u64

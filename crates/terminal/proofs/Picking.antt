@@ -60,6 +60,11 @@ module _ (p : Operation → Bool) where
   spot-more os b k o (none _ h) e = absurd (false≢true e)
   spot-more os b k o (spot _ A R x w q h y) e = spot k A (R ++ o ∷ []) x (rw w (append-assoc A (x ∷ R) (o ∷ []))) q h y
 
+  -- one that doesn't pass
+  pub spot-past : (os : List Operation) (b : Bool) (k : ℕ) (o : Operation) → Spot p os b k → p o ≡ false → Spot p (os ++ o ∷ []) b k
+  spot-past os b k o (none _ h) e = none k (all-append _ os (o ∷ []) h (e, tt))
+  spot-past os b k o (spot _ A R x w q h y) e = spot k A (R ++ o ∷ []) x (rw w (append-assoc A (x ∷ R) (o ∷ []))) q h y
+
   pub spot-new : (os : List Operation) (b v : Bool) (k i : ℕ) (o : Operation) → Spot p os b k → b ≡ false → i ≡ length os → v ≡ p o
       → Spot p (os ++ o ∷ []) v i
   spot-new os b true k i o (none _ h) e q y = spot i os [] o refl q h (sym y)

@@ -23,7 +23,7 @@ use Rattle.terminal.specs.Verdicts.{deadly}
 use Rattle.terminal.specs.Keeping.{Keeps}
 use Rattle.terminal.specs.Settling.{Looks, Spot, none, Rid}
 use Rattle.terminal.proofs.Verdicts.{deadly-verdict, taken-verdict}
-use Rattle.terminal.proofs.Picking.{spot-more, spot-new}
+use Rattle.terminal.proofs.Picking.{spot-more, spot-past, spot-new}
 
 -- the operations that aren't dead
 abbrev pub live : Document → List Operation → List Operation
@@ -168,3 +168,9 @@ module _ (T : Tables) (t : List ℕ) (s : State) (X : Terminal) (i : ℕ) (b : B
           let w = turn S l in
           let a = taken-verdict (X .document) (w .one) (above w .above) (sym (is-dead w) ∙ d) in
           stays x i w (spot-new (able (X .document)) _ b x k i (w .one) (w .first) f (w .place) (y ∙ (ap (λ z. isTaken z) (judged w) ∙ a)))
+
+      pub passes-early : isTaken v ≡ false → Sweeping T t s X (i + 1) b k
+      passes-early f =
+          let w = turn S l in
+          let a = taken-verdict (X .document) (w .one) (above w .above) (sym (is-dead w) ∙ d) in
+          stays b k w (spot-past (able (X .document)) _ b k (w .one) (w .first) (sym a ∙ (ap (λ z. isTaken z) (sym (judged w)) ∙ f)))

@@ -46,14 +46,6 @@ module _ (D : Document) (o : Operation) (above : notAbove o ≡ false) where
   taken-verdict e =
       rw above (takes (repeated (D .seen) o) (crossed (D .seen) o) (readyIn D o) (astray D o) (downward o) (fits (apply o D)) e)
 
-  pub repeat-verdict : repeated (D .seen) o ≡ true → verdict o D ≡ J.Repeat
-  unfolding verdict
-  repeat-verdict r = rw (above, r)
-
-  pub cross-verdict : repeated (D .seen) o ≡ false → crossed (D .seen) o ≡ true → verdict o D ≡ J.OwnDeps
-  unfolding verdict
-  cross-verdict r k = rw (above, r, k)
-
   pub early-verdict : repeated (D .seen) o ≡ false → crossed (D .seen) o ≡ false → readyIn D o ≡ false → verdict o D ≡ J.Early
   unfolding verdict
   early-verdict r k d = rw (above, r, k, d)

@@ -9,8 +9,7 @@ use operate::is_taken;
 ghost use Rattle.tables.specs.Holding.{four};
 ghost use Rattle.terminal.specs.Settling.{Looks, Sweeps, Rounds, Settles};
 
-// The verdict on the operation that waits at i. The id and one entry of deps tell of most that they aren't ready: only where that entry is
-// the seen one are the others read, and only of a ready one the rest.
+// The verdict on the operation that waits at i.
 fn look(
     heads: &[u64],
     keys: &[u64],
@@ -26,27 +25,11 @@ fn look(
     let n = s.waiting;
     let seen = s.seen;
     let counts = s.counts;
-    let id = waiting::id_at(waiting, n, i);
-    if counters::repeated(seen, id) {
-        return Judged::Repeat;
-    }
-    let own = waiting::own_at(waiting, n, i);
-    let last = counters::entry(seen, id % 8);
-    if own < last {
-        return Judged::OwnDeps;
-    }
-    if last < own {
-        return Judged::Early;
-    }
-    let deps = waiting::deps_at(waiting, n, i);
-    if !counters::at_most(deps, seen) {
-        return Judged::Early;
-    }
     let op = waiting::op_at(waiting, n, i);
     operate::judge(heads, keys, marks, values, counts, seen, op)
 }
 
-// Drops the dead, and finds the first that can be applied.
+// Drops the dead, and finds the first that can be applied. Of a message that comes too early no more is read than tells it.
 fn sweep(
     heads: &[u64],
     keys: &[u64],
@@ -59,29 +42,34 @@ fn sweep(
         (now (waiting .entry)) s r
         (now (waiting .exit)) ⌝ }
 {
+    let seen = s.seen.at;
     let mut state = s;
     let mut found = false;
     let mut able: usize = 0;
     let mut i: usize = 0;
     while i < state.waiting {
-        let j = look(heads, keys, marks, values, waiting, state, i);
-        if is_dead(j) {
-            let n = state.waiting;
-            let left = waiting::take_out(waiting, n, i);
-            if left >= n {
-                return Swept {
-                    state,
-                    found: false,
-                    able: 0,
-                };
-            }
-            state.waiting = left;
-        } else {
-            let at = i;
+        let n = state.waiting;
+        if waiting::early(waiting, n, i, &seen) {
             i += 1;
-            if !found {
-                found = is_taken(j);
-                able = at;
+        } else {
+            let j = look(heads, keys, marks, values, waiting, state, i);
+            if is_dead(j) {
+                let left = waiting::take_out(waiting, n, i);
+                if left >= n {
+                    return Swept {
+                        state,
+                        found: false,
+                        able: 0,
+                    };
+                }
+                state.waiting = left;
+            } else {
+                let at = i;
+                i += 1;
+                if !found {
+                    found = is_taken(j);
+                    able = at;
+                }
             }
         }
     }

@@ -2,12 +2,15 @@
 -- Assumes nothing.
 use Prim.Native.Nat.{ℕ, _+_, _*_, _-_, _%_, _≤_, _<_}
 use mathlib.Core.Path.{_≡_, refl, sym, ap, _∙_}
-use mathlib.Core.Bool.{false}
+use mathlib.Core.Bool.{Bool, true, false, not}
 use mathlib.Core.List.{List, _∷_, _++_}
 use mathlib.Core.Logic.{⊎-elim}
 use native.Mathlib.Omega.{arith}
+use borrow.Author.Tests.{lt-ltb, le-ltb, eq-eqb, ne-eqb}
 use lib.Dec.{eqb}
 use lib.ListN.{length, drop, getD, replicate}
+use Rattle.meaning.specs.Ids.{entryOf, entry, atMost, ready}
+use Rattle.meaning.specs.Judge.{crossed}
 use Rattle.meaning.specs.Ways.{Operation}
 use Rattle.meaning.specs.Valid.{ValidOperation}
 use Rattle.words.specs.Words.{run, overAt, opened, closed, inserted}
@@ -15,7 +18,7 @@ use Rattle.words.specs.Rows.{rankRows, rankOf, flat, Ranked}
 use Rattle.words.proofs.Over.{open-write}
 use Rattle.message.specs.declared.Operation as M
 use Rattle.waiting.specs.Rows.{counters, rowWords, opWords, ReadsRow}
-use Rattle.waiting.specs.Waits.{room, idOf, Waits, TellsId, TellsOwn, TellsDeps, Tells, TellsWaits, Puts, TakesOut}
+use Rattle.waiting.specs.Waits.{room, idOf, Waits, TellsEarly, Tells, TellsWaits, Puts, TakesOut}
 use Rattle.waiting.proofs.Ops.{op-long, means-words, id-there, entry-there, deps-there, row-means}
 use Rattle.waiting.proofs.Holds.{table-long, rank-is, behind, there, before-long, all-at, taken-out, waits-past, waits-at, put-in}
 
@@ -23,25 +26,59 @@ module _ (t : List ℕ) (n i : ℕ) where
   valid-there : (A R : List Operation) (o : Operation) → Waits t n (A ++ o ∷ R) → ValidOperation o
   valid-there A R o W = all-at ValidOperation A R o (W .valid)
 
-  pub tells-id : (r : ℕ) → r ≡ getD t (40 * i) 0 → TellsId t n i r
-  unfolding TellsId
-  tells-id r q A R o W e =
-      q ∙ rw (there t n i A R o W e) (id-there (flat opWords A) (behind A o R) o (40 * i) (before-long t n i A R o W e)
-      (valid-there A R o W))
-
-  pub tells-own : (r : ℕ) → r ≡ getD t (40 * i + 1 + getD t (40 * i) 0 % 8) 0 → TellsOwn t n i r
-  unfolding TellsOwn
-  tells-own r q A R o W e =
-      let d = id-there (flat opWords A) (behind A o R) o (40 * i) (before-long t n i A R o W e) (valid-there A R o W) in
+  -- of its deps the entry of its own terminal, and all of them
+  own-there : (A R : List Operation) (o : Operation) → Waits t n (A ++ o ∷ R) → i ≡ length A
+      → (getD t (40 * i) 0 % 8 ≡ entryOf (o .id)) × (getD t (40 * i + 1 + getD t (40 * i) 0 % 8) 0 ≡ entry (o .deps) (entryOf (o .id)))
+  own-there A R o W e =
+      let b = before-long t n i A R o W e in
+      let v = valid-there A R o W in
+      let d = id-there (flat opWords A) (behind A o R) o (40 * i) b v in
       let a : 40 * i + 1 + o .id % 8 ≡ 40 * i + (1 + o .id % 8) = omega arith in
-      q ∙ rw (there t n i A R o W e, d, a)
-      (entry-there (flat opWords A) (behind A o R) o (40 * i) (before-long t n i A R o W e) (valid-there A R o W) (o .id % 8) (omega arith))
+      rw (there t n i A R o W e, d, a) (refl, entry-there (flat opWords A) (behind A o R) o (40 * i) b v (o .id % 8) (omega arith))
 
-  pub tells-deps : (r : List ℕ) → r ≡ counters (run (40 * i + 1) 8 t) → TellsDeps t n i r
-  unfolding TellsDeps
-  tells-deps r q A R o W e =
-      q ∙ rw (there t n i A R o W e) (deps-there (flat opWords A) (behind A o R) o (40 * i) (before-long t n i A R o W e)
-      (valid-there A R o W))
+  all-there : (A R : List Operation) (o : Operation) → Waits t n (A ++ o ∷ R) → i ≡ length A → counters (run (40 * i + 1) 8 t) ≡ o .deps
+  all-there A R o W e =
+      rw (there t n i A R o W e)
+      (deps-there (flat opWords A) (behind A o R) o (40 * i) (before-long t n i A R o W e) (valid-there A R o W))
+
+  module _ (s : List ℕ) (last own : ℕ) (l : last ≡ getD s (getD t (40 * i) 0 % 8) 0)
+      (w : own ≡ getD t (40 * i + 1 + getD t (40 * i) 0 % 8) 0) where
+    record Entries (o : Operation) : Type 0 where
+      own-is : own ≡ entry (o .deps) (entryOf (o .id))
+      last-is : last ≡ entry s (entryOf (o .id))
+
+    entries : (A R : List Operation) (o : Operation) → Waits t n (A ++ o ∷ R) → i ≡ length A → Entries o
+    entries A R o W e =
+        let q = own-there A R o W e in
+        record { own-is = w ∙ q .1; last-is = l ∙ ap (λ k. getD s k 0) (q .0) }
+
+    pub early-dead : own < last → TellsEarly t n i s false
+    unfolding TellsEarly crossed
+    early-dead h A R o W e =
+        let q = entries A R o W e in
+        rw (lt-ltb (entry (o .deps) (entryOf (o .id))) (entry s (entryOf (o .id))) (omega (arith, q .own-is, q .last-is)))
+
+    pub early-ahead : last < own → TellsEarly t n i s true
+    unfolding TellsEarly crossed ready
+    early-ahead h A R o W e =
+        let q = entries A R o W e in
+        rw (
+          le-ltb (entry (o .deps) (entryOf (o .id))) (entry s (entryOf (o .id))) (omega (arith, q .own-is, q .last-is)),
+          ne-eqb (entry (o .deps) (entryOf (o .id))) (entry s (entryOf (o .id))) (λ z. omega (arith, q .own-is, q .last-is)),
+        )
+
+    pub early-even : last ≤ own → own ≤ last → (deps : List ℕ) → deps ≡ counters (run (40 * i + 1) 8 t) → (r : Bool) → r ≡ atMost deps s
+        → TellsEarly t n i s (not r)
+    unfolding TellsEarly crossed ready
+    early-even h k deps d r y A R o W e =
+        let q = entries A R o W e in
+        rw (
+          le-ltb (entry (o .deps) (entryOf (o .id))) (entry s (entryOf (o .id))) (omega (arith, q .own-is, q .last-is)),
+          eq-eqb (entry (o .deps) (entryOf (o .id))) (entry s (entryOf (o .id))) (omega (arith, q .own-is, q .last-is)),
+          y,
+          d,
+          all-there A R o W e,
+        )
 
   pub tells : (r : M.Operation) → ReadsRow t (40 * i) r → Tells t n i r
   unfolding Tells

@@ -3,11 +3,12 @@
 -- Assumes nothing: these are definitions.
 use Prim.Native.Nat.{ℕ, _+_, _≤_, _<_}
 use mathlib.Core.Path.{_≡_}
-use mathlib.Core.Bool.{Bool, false}
+use mathlib.Core.Bool.{Bool, false, not, _&&_}
 use mathlib.Core.List.{List, _∷_, _++_}
 use mathlib.Core.Logic.{_⊎_}
 use lib.ListN.{length}
-use Rattle.meaning.specs.Ids.{entryOf, entry}
+use Rattle.meaning.specs.Ids.{ready}
+use Rattle.meaning.specs.Judge.{crossed}
 use Rattle.meaning.specs.Members.{All, Ascending}
 use Rattle.meaning.specs.Receive.{waits}
 use Rattle.meaning.specs.Sets.{put}
@@ -34,17 +35,13 @@ pub record Waits (t : List ℕ) (n : ℕ) (os : List Operation) : Type 0 where
   pub ascending : Ascending idOf os
   pub valid : All ValidOperation os
 
+-- whether the operation at i comes too early where s is seen
+unfoldable pub TellsEarly : List ℕ → ℕ → ℕ → List ℕ → Bool → Type 0
+TellsEarly t n i s r =
+    (A R : List Operation) (o : Operation) → Waits t n (A ++ o ∷ R) → i ≡ length A
+    → r ≡ (not (crossed s o) && not (ready s (o .id) (o .deps)))
+
 -- the operation at i
-unfoldable pub TellsId : List ℕ → ℕ → ℕ → ℕ → Type 0
-TellsId t n i r = (A R : List Operation) (o : Operation) → Waits t n (A ++ o ∷ R) → i ≡ length A → r ≡ o .id
-
-unfoldable pub TellsOwn : List ℕ → ℕ → ℕ → ℕ → Type 0
-TellsOwn t n i r =
-    (A R : List Operation) (o : Operation) → Waits t n (A ++ o ∷ R) → i ≡ length A → r ≡ entry (o .deps) (entryOf (o .id))
-
-unfoldable pub TellsDeps : List ℕ → ℕ → ℕ → List ℕ → Type 0
-TellsDeps t n i r = (A R : List Operation) (o : Operation) → Waits t n (A ++ o ∷ R) → i ≡ length A → r ≡ o .deps
-
 unfoldable pub Tells : List ℕ → ℕ → ℕ → M.Operation → Type 0
 Tells t n i r = (A R : List Operation) (o : Operation) → Waits t n (A ++ o ∷ R) → i ≡ length A → Means r o
 

@@ -3,6 +3,8 @@
 // promise of a table that holds operations says specs/Waits.
 mod row;
 
+use counters::at_most;
+use counters::wide;
 use meaning::Counters;
 use message::Operation;
 use row::counters_at;
@@ -12,55 +14,35 @@ use row::write_row;
 use words::close;
 use words::open;
 use words::rank_rows;
-ghost use Rattle.waiting.specs.Waits.{TellsId, TellsOwn, TellsDeps, Tells, TellsWaits, Puts, TakesOut};
+ghost use Rattle.waiting.specs.Waits.{TellsEarly, Tells, TellsWaits, Puts, TakesOut};
 
-// The id of the operation at i.
-pub fn id_at(t: &[u64], n: usize, i: usize) -> u64
-    ensures { λ r. ⌜ TellsId (now (t .entry)) n i r ⌝ }
+// Whether the operation at i comes too early where these are the entries of seen: it isn't ready, and not dead by the entry of its own
+// terminal. That entry alone tells it of most.
+pub fn early(t: &[u64], n: usize, i: usize, seen: &[u32; 8]) -> bool
+    ensures { λ r. ⌜ TellsEarly (now (t .entry)) n i (now (seen .entry)) r ⌝ }
 {
     if t.len() < 2560 {
-        return 0;
+        return false;
     }
     if n > 64 {
-        return 0;
+        return false;
     }
     if i >= n {
-        return 0;
-    }
-    t[40 * i]
-}
-
-// Of its deps the entry of its own terminal.
-pub fn own_at(t: &[u64], n: usize, i: usize) -> u64
-    ensures { λ r. ⌜ TellsOwn (now (t .entry)) n i r ⌝ }
-{
-    if t.len() < 2560 {
-        return 0;
-    }
-    if n > 64 {
-        return 0;
-    }
-    if i >= n {
-        return 0;
+        return false;
     }
     let own = (t[40 * i] % 8) as usize;
-    t[40 * i + 1 + own]
-}
-
-// Its deps.
-pub fn deps_at(t: &[u64], n: usize, i: usize) -> Counters
-    ensures { λ r. ⌜ TellsDeps (now (t .entry)) n i (r .at) ⌝ }
-{
-    if t.len() < 2560 {
-        return Counters { at: [0u32; 8] };
+    let last = wide(seen[own]);
+    let entry = t[40 * i + 1 + own];
+    if entry < last {
+        return false;
     }
-    if n > 64 {
-        return Counters { at: [0u32; 8] };
+    if last < entry {
+        return true;
     }
-    if i >= n {
-        return Counters { at: [0u32; 8] };
-    }
-    counters_at(t, 40 * i + 1)
+    let deps = counters_at(t, 40 * i + 1);
+    let all = Counters { at: *seen };
+    let ready = at_most(deps, all);
+    !ready
 }
 
 // The operation at i.

@@ -7,22 +7,46 @@ use lib.ListN.{length}
 use Rattle.meaning.specs.Receive.{Terminal}
 use Rattle.tables.specs.Holding.{four}
 use Rattle.terminal.specs.Keeping.{Keeps}
-use Rattle.terminal.proofs.Sweeping.{Sweeping, begins, ends, drops, one-less, passes, notes}
+use Rattle.terminal.proofs.Looking.{looks-early}
+use Rattle.terminal.proofs.Sweeping.{Sweeping, begins, ends, drops, one-less, passes, notes, passes-early}
 use borrow.Author.Needs.{needs}
 use Rattle.terminal.proofs.settling.sweep.Statement.{statement}
 use Rattle.terminal.proofs.settling.sweep.Tie as tie
 
 abbrev Inv-loop : tie.InvT-loop
-Inv-loop heads keys marks values waiting₀ state₀ found₀ able₀ i₀ waiting state found able i =
-    (state .waiting ≤ state₀ .waiting) × (length waiting ≡ length waiting₀)
-    × ((X : Terminal) → Keeps (four heads keys marks values) waiting₀ state₀ X → Sweeping (four heads keys marks values) waiting
-    state X i found able)
+Inv-loop heads keys marks values waiting₀ seen state₀ found₀ able₀ i₀ waiting state found able i =
+    (state .waiting ≤ state₀ .waiting) × (length waiting ≡ length waiting₀) × (seen ≡ state .seen .at)
+    × ((X : Terminal) → Keeps (four heads keys marks values) waiting₀ state₀ X
+    → Sweeping (four heads keys marks values) waiting state X i found able)
 
 abbrev μ-loop : tie.MeasureT-loop
-μ-loop heads keys marks values waiting₀ state₀ found₀ able₀ i₀ waiting state found able i = state .waiting - i
+μ-loop heads keys marks values waiting₀ seen state₀ found₀ able₀ i₀ waiting state found able i =
+    state .waiting - i
 
 loop-holds : tie.Need-loop-holds Inv-loop μ-loop
-loop-holds c = (omega arith, refl, λ X K. begins _ _ _ X K)
+loop-holds c = (omega arith, refl, refl, λ X K. begins _ _ _ X K)
+
+early-requires : tie.Need-early-requires Inv-loop μ-loop
+early-requires c κs = search needs
+
+add-i : tie.Need-add-i Inv-loop μ-loop
+add-i c = search needs
+
+loop-less : tie.Need-loop-less Inv-loop μ-loop
+loop-less c = search needs
+
+loop-again : tie.Need-loop-again Inv-loop μ-loop
+loop-again c =
+    let at-early = c .before in
+    let at-if1 = at-early .before .before .before in
+    let at-loop = at-if1 .before .before in (
+      at-loop .loop .inv .0,
+      at-loop .loop .inv .1,
+      at-loop .loop .inv .2,
+      λ X K.
+          passes-early _ _ _ X _ _ _ _ (looks-early _ _ _ _ _ _ (at-loop .loop .inv .2) (at-early .early .ensures) (c .if2 .taken))
+          (at-loop .loop .inv .3 X K) (at-if1 .if1 .taken) refl refl,
+    )
 
 look-requires : tie.Need-look-requires Inv-loop μ-loop
 look-requires c κs = search needs
@@ -39,76 +63,82 @@ same-length c = search needs
 returns : tie.Need-returns Inv-loop μ-loop
 returns c =
     let at-take-out = c .before .before .before in
-    let at-look = at-take-out .before .before .before .before in
-    let at-if1 = at-look .before .before in
+    let at-if3 = at-take-out .before .before in
+    let at-is-dead = at-if3 .before in
+    let at-look = at-is-dead .before in
+    let at-if1 = at-look .before .before .before .before .before .before in
     let at-loop = at-if1 .before .before in
     record {
       fewer = at-loop .loop .inv .0;
       sweeps = λ X K.
           absurd (omega (
             arith,
-            c .if3 .taken,
-            one-less _ _ _ X _ _ _ _ (at-look .look .ensures) (at-loop .loop .inv .2 X K)
+            c .if4 .taken,
+            one-less _ _ _ X _ _ _ _ (at-look .look .ensures) (at-loop .loop .inv .3 X K)
                 (at-if1 .if1 .taken) _ _ (at-take-out .take-out .ensures),
           ));
     }
-
-loop-less : tie.Need-loop-less Inv-loop μ-loop
-loop-less c = search needs
-
-loop-again : tie.Need-loop-again Inv-loop μ-loop
-loop-again c =
-    let at-take-out = c .before .before .before in
-    let at-if2 = at-take-out .before .before in
-    let at-is-dead = at-if2 .before in
-    let at-look = at-is-dead .before in
-    let at-if1 = at-look .before .before in
-    let at-loop = at-if1 .before .before in (
-      omega (arith, at-loop .loop .inv .0, c .if3 .left),
-      omega (arith, at-loop .loop .inv .1, at-take-out .take-out .kept),
-      λ X K.
-          drops _ _ _ X _ _ _ _ (at-look .look .ensures) (at-loop .loop .inv .2 X K) (at-if1 .if1 .taken) _ _
-          (at-take-out .take-out .ensures) (sym (at-is-dead .is-dead .ensures) ∙ at-if2 .if2 .taken),
-    )
-
-add-i : tie.Need-add-i Inv-loop μ-loop
-add-i c = search needs
-
-is-taken-requires : tie.Need-is-taken-requires Inv-loop μ-loop
-is-taken-requires c κs = search needs
 
 loop-less-2 : tie.Need-loop-less-2 Inv-loop μ-loop
 loop-less-2 c = search needs
 
 loop-again-2 : tie.Need-loop-again-2 Inv-loop μ-loop
 loop-again-2 c =
-    let at-if2 = c .before .before in
-    let at-is-dead = at-if2 .before in
+    let at-take-out = c .before .before .before in
+    let at-if3 = at-take-out .before .before in
+    let at-is-dead = at-if3 .before in
     let at-look = at-is-dead .before in
-    let at-if1 = at-look .before .before in
+    let at-if1 = at-look .before .before .before .before .before .before in
     let at-loop = at-if1 .before .before in (
-      at-loop .loop .inv .0,
-      at-loop .loop .inv .1,
+      omega (arith, at-loop .loop .inv .0, c .if4 .left),
+      omega (arith, at-loop .loop .inv .1, at-take-out .take-out .kept),
+      at-loop .loop .inv .2,
       λ X K.
-          notes _ _ _ X _ _ _ _ (at-look .look .ensures) (at-loop .loop .inv .2 X K) (at-if1 .if1 .taken)
-          (sym (at-is-dead .is-dead .ensures) ∙ at-if2 .if2 .left) (not-true _ (c .before .if4 .taken)) _
-          (c .is-taken .ensures),
+          drops _ _ _ X _ _ _ _ (at-look .look .ensures) (at-loop .loop .inv .3 X K) (at-if1 .if1 .taken) _ _
+          (at-take-out .take-out .ensures) (sym (at-is-dead .is-dead .ensures) ∙ at-if3 .if3 .taken),
     )
+
+add-i-2 : tie.Need-add-i-2 Inv-loop μ-loop
+add-i-2 c = search needs
+
+is-taken-requires : tie.Need-is-taken-requires Inv-loop μ-loop
+is-taken-requires c κs = search needs
 
 loop-less-3 : tie.Need-loop-less-3 Inv-loop μ-loop
 loop-less-3 c = search needs
 
 loop-again-3 : tie.Need-loop-again-3 Inv-loop μ-loop
 loop-again-3 c =
-    let at-is-dead = c .before .before in
+    let at-if5 = c .before in
+    let at-if3 = at-if5 .before in
+    let at-is-dead = at-if3 .before in
     let at-look = at-is-dead .before in
-    let at-if1 = at-look .before .before in
+    let at-if1 = at-look .before .before .before .before .before .before in
     let at-loop = at-if1 .before .before in (
       at-loop .loop .inv .0,
       at-loop .loop .inv .1,
+      at-loop .loop .inv .2,
       λ X K.
-          passes _ _ _ X _ _ _ _ (at-look .look .ensures) (at-loop .loop .inv .2 X K) (at-if1 .if1 .taken)
-          (sym (at-is-dead .is-dead .ensures) ∙ c .before .if2 .left) (not-false _ (c .if4 .left)),
+          notes _ _ _ X _ _ _ _ (at-look .look .ensures) (at-loop .loop .inv .3 X K) (at-if1 .if1 .taken)
+          (sym (at-is-dead .is-dead .ensures) ∙ at-if3 .if3 .left) (not-true _ (at-if5 .if5 .taken)) _ (c .is-taken .ensures),
+    )
+
+loop-less-4 : tie.Need-loop-less-4 Inv-loop μ-loop
+loop-less-4 c = search needs
+
+loop-again-4 : tie.Need-loop-again-4 Inv-loop μ-loop
+loop-again-4 c =
+    let at-if3 = c .before in
+    let at-is-dead = at-if3 .before in
+    let at-look = at-is-dead .before in
+    let at-if1 = at-look .before .before .before .before .before .before in
+    let at-loop = at-if1 .before .before in (
+      at-loop .loop .inv .0,
+      at-loop .loop .inv .1,
+      at-loop .loop .inv .2,
+      λ X K.
+          passes _ _ _ X _ _ _ _ (at-look .look .ensures) (at-loop .loop .inv .3 X K) (at-if1 .if1 .taken)
+          (sym (at-is-dead .is-dead .ensures) ∙ at-if3 .if3 .left) (not-false _ (c .if5 .left)),
     )
 
 same-length-2 : tie.Need-same-length-2 Inv-loop μ-loop
@@ -117,7 +147,7 @@ same-length-2 c = search needs
 returns-2 : tie.Need-returns-2 Inv-loop μ-loop
 returns-2 c = record {
   fewer = c .before .before .loop .inv .0;
-  sweeps = λ X K. ends _ _ _ X _ _ _ (c .before .before .loop .inv .2 X K) (c .if1 .left);
+  sweeps = λ X K. ends _ _ _ X _ _ _ (c .before .before .loop .inv .3 X K) (c .if1 .left);
 }
 
 pub sweep-spec : {M : Type 1} → statement M
@@ -127,18 +157,22 @@ sweep-spec =
     Inv-loop
     μ-loop
     loop-holds
+    early-requires
+    add-i
+    loop-less
+    loop-again
     look-requires
     is-dead-requires
     take-out-requires
     same-length
     returns
-    loop-less
-    loop-again
-    add-i
-    is-taken-requires
     loop-less-2
     loop-again-2
+    add-i-2
+    is-taken-requires
     loop-less-3
     loop-again-3
+    loop-less-4
+    loop-again-4
     same-length-2
     returns-2)
