@@ -8,8 +8,9 @@ demo:
 	tools/run target/bin/merge <examples/five.messages
 	tools/run target/bin/merge <examples/bringup.messages
 
+# rt starts crates and edits in batches and waits for each to end: one job more than there are processors keeps them busy
 test: setup rust-test same
-	rt ci
+	RT_JOBS=$$(($$(nproc) + 1)) rt ci
 
 # what the kit's machine has already; elsewhere Debian's packages
 setup:
