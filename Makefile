@@ -8,7 +8,7 @@ demo:
 	tools/run target/bin/merge <examples/five.messages
 	tools/run target/bin/merge <examples/bringup.messages
 
-# rt starts crates and edits in batches and waits for each to end: one job more than there are processors keeps them busy
+# one job more than there are processors, since rt waits for each batch to end; on two processors it was no slower, and no faster either (docs/CHECKS.md)
 test: setup rust-test same
 	RT_JOBS=$$(($$(nproc) + 1)) rt ci
 
