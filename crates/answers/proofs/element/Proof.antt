@@ -5,15 +5,6 @@ use Rattle.answers.proofs.Filled.{too-short, written}
 use borrow.Author.Needs.{needs}
 use Rattle.answers.proofs.element.Statement.{statement}
 use Rattle.answers.proofs.element.Tie as tie
-use Rattle.decimal.proofs.powers.Reads as powers-reads
-use Rattle.lines.proofs.id_row_size.Reads as id-row-size-reads
-use Rattle.lines.proofs.put_id_row.Reads as put-id-row-reads
-
-powers-requires : tie.Need-powers-requires
-powers-requires c κs = search needs
-
-id-row-size-requires : tie.Need-id-row-size-requires
-id-row-size-requires c κs = search needs
 
 returns : tie.Need-returns
 returns c = too-short _ _ _ (c .before .id-row-size .ensures .size) (omega (arith, c .before .id-row-size .ensures .most)) (c .if1 .taken)
@@ -24,9 +15,6 @@ put-id-row-requires c κs =
     let at-id-row-size = at-if1 .before in
     let at-powers = at-id-row-size .before .before in
     (at-powers .powers .ensures, rw (at-id-row-size .id-row-size .ensures .size) at (at-if1 .if1 .left))
-
-same-length : tie.Need-same-length
-same-length c = search needs
 
 returns-2 : tie.Need-returns-2
 returns-2 c =
@@ -39,9 +27,9 @@ pub element-spec : {M : Type 1} → statement M
 element-spec =
     tie.close
     (tie.spec
-    powers-requires
-    id-row-size-requires
+    (λ c κs. search needs)
+    (λ c κs. search needs)
     returns
     put-id-row-requires
-    same-length
+    (λ c. search needs)
     returns-2)

@@ -6,13 +6,6 @@ use Rattle.answers.proofs.Rows.{key-here, untold-sized}
 use borrow.Author.Needs.{needs}
 use Rattle.answers.proofs.key_size.Statement.{statement}
 use Rattle.answers.proofs.key_size.Tie as tie
-use Rattle.lines.proofs.key_row_size.Reads as key-row-size-reads
-
-word-requires : tie.Need-word-requires
-word-requires c κs = search needs
-
-is-told-requires : tie.Need-is-told-requires
-is-told-requires c κs = search needs
 
 mul-word : tie.Need-mul-word
 mul-word c =
@@ -24,19 +17,10 @@ add-word c =
     let at-pre = c .before .before .before .before .before in
     omega (arith, at-pre .pre)
 
-word-requires-2 : tie.Need-word-requires-2
-word-requires-2 c κs = search needs
-
-short-of-requires : tie.Need-short-of-requires
-short-of-requires c κs = search needs
-
 mul-word-2 : tie.Need-mul-word-2
 mul-word-2 c =
     let at-pre = c .before .before .before .before .before .before .before in
     omega (arith, at-pre .pre)
-
-word-requires-3 : tie.Need-word-requires-3
-word-requires-3 c κs = search needs
 
 mul-word-3 : tie.Need-mul-word-3
 mul-word-3 c =
@@ -47,12 +31,6 @@ add-word-2 : tie.Need-add-word-2
 add-word-2 c =
     let at-pre = c .before .before .before .before .before .before .before .before in
     omega (arith, at-pre .pre)
-
-word-requires-4 : tie.Need-word-requires-4
-word-requires-4 c κs = search needs
-
-key-row-size-requires : tie.Need-key-row-size-requires
-key-row-size-requires c κs = c .before .before .short-of .ensures .1
 
 returns : tie.Need-returns
 returns c =
@@ -78,17 +56,17 @@ pub key-size-spec : {M : Type 1} → statement M
 key-size-spec =
     tie.close
     (tie.spec
-    word-requires
-    is-told-requires
+    (λ c κs. search needs)
+    (λ c κs. search needs)
     mul-word
     add-word
-    word-requires-2
-    short-of-requires
+    (λ c κs. search needs)
+    (λ c κs. search needs)
     mul-word-2
-    word-requires-3
+    (λ c κs. search needs)
     mul-word-3
     add-word-2
-    word-requires-4
-    key-row-size-requires
+    (λ c κs. search needs)
+    (λ c κs. c .before .before .short-of .ensures .1)
     returns
     returns-2)

@@ -23,9 +23,6 @@ returns-2 c =
     nothing _ (no-rows (at-start .args .heads .now) (at-start .args .keys .now) (at-start .args .from) (at-start .args .rows)
     (at-start .args .depth) (c .if2 .taken))
 
-rows-under-requires : tie.Need-rows-under-requires
-rows-under-requires c κs = c .if2 .left
-
 keys-size-requires : tie.Need-keys-size-requires
 keys-size-requires c κs =
     let at-if1 = c .before .before in
@@ -76,9 +73,6 @@ put-keys-requires c κs =
           (at-keys-size .keys-size .ensures .size) at (c .before .if3 .left),
     )
 
-same-length : tie.Need-same-length
-same-length c = search needs
-
 returns-4 : tie.Need-returns-4
 returns-4 c =
     let at-put-keys = c .before .before in
@@ -104,9 +98,9 @@ keys-spec =
     (tie.spec
     returns
     returns-2
-    rows-under-requires
+    (λ c κs. c .if2 .left)
     keys-size-requires
     returns-3
     put-keys-requires
-    same-length
+    (λ c. search needs)
     returns-4)

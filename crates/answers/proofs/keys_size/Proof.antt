@@ -40,12 +40,6 @@ add-i c =
     let at-pre = at-loop .before .before .before in
     omega (arith, at-loop .loop .inv .1, at-pre .pre, c .before .loop-test .taken)
 
-sub-left : tie.Need-sub-left Inv-loop μ-loop
-sub-left c = omega (arith, c .before .loop-test .taken)
-
-loop-less : tie.Need-loop-less Inv-loop μ-loop
-loop-less c = omega (arith, c .before .loop-test .taken)
-
 loop-again : tie.Need-loop-again Inv-loop μ-loop
 loop-again c =
     let at-loop = c .before .before in
@@ -72,7 +66,7 @@ keys-size-spec =
     key-size-requires
     add-sum
     add-i
-    sub-left
-    loop-less
+    (λ c. omega (arith, c .before .loop-test .taken))
+    (λ c. omega (arith, c .before .loop-test .taken))
     loop-again
     returns)

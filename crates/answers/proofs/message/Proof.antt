@@ -6,19 +6,6 @@ use Rattle.answers.proofs.Filled.{too-short, too-long, written, sizes, 
 use borrow.Author.Needs.{needs}
 use Rattle.answers.proofs.message.Statement.{statement}
 use Rattle.answers.proofs.message.Tie as tie
-use Rattle.decimal.proofs.powers.Reads as powers-reads
-use Rattle.lines.proofs.message_head_size.Reads as message-head-size-reads
-use Rattle.lines.proofs.put_message_head.Reads as put-message-head-reads
-use Rattle.writers.proofs.then_text.Reads as then-text-reads
-
-powers-requires : tie.Need-powers-requires
-powers-requires c κs = search needs
-
-message-head-size-requires : tie.Need-message-head-size-requires
-message-head-size-requires c κs = search needs
-
-sub-if1 : tie.Need-sub-if1
-sub-if1 c = omega (arith, c .message-head-size .ensures .most)
 
 returns : tie.Need-returns
 returns c =
@@ -31,9 +18,6 @@ returns c =
           (messageHead (at-start .args .id) (at-start .args .deps .at)) (at-start .args .lines .now) (at-start .args .buf .now)
           (c .before .message-head-size .ensures .size),
     )) (omega arith)
-
-add-needed : tie.Need-add-needed
-add-needed c = omega (arith, c .before .message-head-size .ensures .most, c .if1 .left)
 
 returns-2 : tie.Need-returns-2
 returns-2 c =
@@ -75,9 +59,6 @@ then-text-requires c κs =
     ))
     (at-put-message-head .put-message-head .ensures)
 
-same-length : tie.Need-same-length
-same-length c = search needs
-
 returns-3 : tie.Need-returns-3
 returns-3 c =
     let at-then-text = c .before .before in
@@ -104,13 +85,13 @@ pub message-spec : {M : Type 1} → statement M
 message-spec =
     tie.close
     (tie.spec
-    powers-requires
-    message-head-size-requires
-    sub-if1
+    (λ c κs. search needs)
+    (λ c κs. search needs)
+    (λ c. omega (arith, c .message-head-size .ensures .most))
     returns
-    add-needed
+    (λ c. omega (arith, c .before .message-head-size .ensures .most, c .if1 .left))
     returns-2
     put-message-head-requires
     then-text-requires
-    same-length
+    (λ c. search needs)
     returns-3)

@@ -6,13 +6,6 @@ use Rattle.answers.proofs.Rows.{key-here, untold-wrote}
 use borrow.Author.Needs.{needs}
 use Rattle.answers.proofs.put_key.Statement.{statement}
 use Rattle.answers.proofs.put_key.Tie as tie
-use Rattle.lines.proofs.put_key_row.Reads as put-key-row-reads
-
-word-requires : tie.Need-word-requires
-word-requires c κs = search needs
-
-is-told-requires : tie.Need-is-told-requires
-is-told-requires c κs = search needs
 
 mul-word : tie.Need-mul-word
 mul-word c =
@@ -24,19 +17,10 @@ add-word c =
     let at-pre = c .before .before .before .before .before .before in
     omega (arith, at-pre .pre .0)
 
-word-requires-2 : tie.Need-word-requires-2
-word-requires-2 c κs = search needs
-
-short-of-requires : tie.Need-short-of-requires
-short-of-requires c κs = search needs
-
 mul-word-2 : tie.Need-mul-word-2
 mul-word-2 c =
     let at-pre = c .before .before .before .before .before .before .before .before .before in
     omega (arith, at-pre .pre .0)
-
-word-requires-3 : tie.Need-word-requires-3
-word-requires-3 c κs = search needs
 
 mul-word-3 : tie.Need-mul-word-3
 mul-word-3 c =
@@ -47,9 +31,6 @@ add-word-2 : tie.Need-add-word-2
 add-word-2 c =
     let at-pre = c .before .before .before .before .before .before .before .before .before .before in
     omega (arith, at-pre .pre .0)
-
-word-requires-4 : tie.Need-word-requires-4
-word-requires-4 c κs = search needs
 
 put-key-row-requires : tie.Need-put-key-row-requires
 put-key-row-requires c κs =
@@ -65,9 +46,6 @@ put-key-row-requires c κs =
           (c .before .word3 .ensures) (c .word4 .ensures) (at-word2 .word2 .ensures) (at-short-of .short-of .ensures .0))
           (at-start .pre .1),
     )
-
-same-length : tie.Need-same-length
-same-length c = search needs
 
 returns : tie.Need-returns
 returns c =
@@ -96,18 +74,18 @@ pub put-key-spec : {M : Type 1} → statement M
 put-key-spec =
     tie.close
     (tie.spec
-    word-requires
-    is-told-requires
+    (λ c κs. search needs)
+    (λ c κs. search needs)
     mul-word
     add-word
-    word-requires-2
-    short-of-requires
+    (λ c κs. search needs)
+    (λ c κs. search needs)
     mul-word-2
-    word-requires-3
+    (λ c κs. search needs)
     mul-word-3
     add-word-2
-    word-requires-4
+    (λ c κs. search needs)
     put-key-row-requires
-    same-length
+    (λ c. search needs)
     returns
     returns-2)

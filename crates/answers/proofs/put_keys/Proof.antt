@@ -21,15 +21,6 @@ loop-holds c =
     let at-pre = c .before .before .before in
     (begun _ _ (at-pre .pre .1), refl)
 
-sub-put-key : tie.Need-sub-put-key Inv-loop μ-loop
-sub-put-key c = omega (arith, last-room (c .before .loop .inv .0))
-
-part-put-key-start : tie.Need-part-put-key-start Inv-loop μ-loop
-part-put-key-start c = omega (arith, last-room (c .before .loop .inv .0))
-
-part-put-key-end : tie.Need-part-put-key-end Inv-loop μ-loop
-part-put-key-end c = omega (arith, last-room (c .before .loop .inv .0))
-
 put-key-requires : tie.Need-put-key-requires Inv-loop μ-loop
 put-key-requires c κs =
     let at-loop = c .before .before in
@@ -83,9 +74,6 @@ loop-again c =
       omega (arith, at-loop .loop .inv .1, at-loop-test .loop-test .taken),
     )
 
-same-length : tie.Need-same-length Inv-loop μ-loop
-same-length c = same-long (c .before .loop .inv .0)
-
 returns : tie.Need-returns Inv-loop μ-loop
 returns c =
     let at-start = c .before .before .before .before .before in
@@ -99,14 +87,14 @@ put-keys-spec =
     Inv-loop
     μ-loop
     loop-holds
-    sub-put-key
-    part-put-key-start
-    part-put-key-end
+    (λ c. omega (arith, last-room (c .before .loop .inv .0)))
+    (λ c. omega (arith, last-room (c .before .loop .inv .0)))
+    (λ c. omega (arith, last-room (c .before .loop .inv .0)))
     put-key-requires
     add-at
     add-i
     sub-left
     loop-less
     loop-again
-    same-length
+    (λ c. same-long (c .before .loop .inv .0))
     returns)

@@ -12,9 +12,6 @@ Inv-loop heads from rows depth n₀ left₀ n left = Counting heads depth from r
 abbrev μ-loop : tie.MeasureT-loop
 μ-loop heads from rows depth n₀ left₀ n left = left
 
-sub-left : tie.Need-sub-left Inv-loop μ-loop
-sub-left c = omega (arith, c .before .pre)
-
 loop-holds : tie.Need-loop-holds Inv-loop μ-loop
 loop-holds c = count-none (c .before .args .heads .now) (c .before .args .depth) (c .before .args .from) (c .before .args .rows)
 
@@ -22,9 +19,6 @@ add-word : tie.Need-add-word Inv-loop μ-loop
 add-word c =
     let at-pre = c .before .before .before in
     omega (arith, c .before .loop .inv .few, at-pre .pre, c .loop-test .taken)
-
-word-requires : tie.Need-word-requires Inv-loop μ-loop
-word-requires c κs = search needs
 
 returns : tie.Need-returns Inv-loop μ-loop
 returns c =
@@ -38,12 +32,6 @@ add-n c =
     let at-loop = at-loop-test .before in
     let at-pre = at-loop .before .before in
     omega (arith, at-loop .loop .inv .few, at-pre .pre, at-loop-test .loop-test .taken)
-
-sub-left-2 : tie.Need-sub-left-2 Inv-loop μ-loop
-sub-left-2 c = omega (arith, c .before .before .loop-test .taken)
-
-loop-less : tie.Need-loop-less Inv-loop μ-loop
-loop-less c = omega (arith, c .before .before .loop-test .taken)
 
 loop-again : tie.Need-loop-again Inv-loop μ-loop
 loop-again c =
@@ -64,13 +52,13 @@ rows-under-spec =
     (tie.spec
     Inv-loop
     μ-loop
-    sub-left
+    (λ c. omega (arith, c .before .pre))
     loop-holds
     add-word
-    word-requires
+    (λ c κs. search needs)
     returns
     add-n
-    sub-left-2
-    loop-less
+    (λ c. omega (arith, c .before .before .loop-test .taken))
+    (λ c. omega (arith, c .before .before .loop-test .taken))
     loop-again
     returns-2)

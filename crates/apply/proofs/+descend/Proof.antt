@@ -59,33 +59,6 @@ descend-returns-2 t c =
     let at-start = c .before .before .before .before .before .before .before in
     descend-deep (at-start .args .o) _ _ _ _ _ (omega arith)
 
-descend-shared-slice-read-hi : (t : ℕ) → descend-lts.Need-shared-slice-read-hi (claims t) (descend-at t) descend.Post
-descend-shared-slice-read-hi t c = omega arith
-
-descend-shared-slice-read-lo : (t : ℕ) → descend-lts.Need-shared-slice-read-lo (claims t) (descend-at t) descend.Post
-descend-shared-slice-read-lo t c = omega arith
-
-descend-shared-slice-read-len : (t : ℕ) → descend-lts.Need-shared-slice-read-len (claims t) (descend-at t) descend.Post
-descend-shared-slice-read-len t c = omega arith
-
-descend-inserts-here-requires : (t : ℕ) → descend-lts.Need-inserts-here-requires (claims t) (descend-at t) descend.Post
-descend-inserts-here-requires t c κs = search needs
-
-descend-put-element-requires : (t : ℕ) → descend-lts.Need-put-element-requires (claims t) (descend-at t) descend.Post
-descend-put-element-requires t c κs = search needs
-
-descend-same-length : (t : ℕ) → descend-lts.Need-same-length (claims t) (descend-at t) descend.Post
-descend-same-length t c = search needs
-
-descend-same-length-2 : (t : ℕ) → descend-lts.Need-same-length-2 (claims t) (descend-at t) descend.Post
-descend-same-length-2 t c = search needs
-
-descend-same-length-3 : (t : ℕ) → descend-lts.Need-same-length-3 (claims t) (descend-at t) descend.Post
-descend-same-length-3 t c = search needs
-
-descend-same-length-4 : (t : ℕ) → descend-lts.Need-same-length-4 (claims t) (descend-at t) descend.Post
-descend-same-length-4 t c = search needs
-
 descend-returns-3 : (t : ℕ) → descend-lts.Need-returns-3 (claims t) (descend-at t) descend.Post
 descend-returns-3 t c =
     let at-put-element = c .before .before .before .before .before .before .before .before in
@@ -94,15 +67,6 @@ descend-returns-3 t c =
     let at-start = at-inserts-here .before .before .before .before .before .before .before .before .before .before .before in
     descend-inserts (at-start .args .o) _ _ _ _ _ _ _ _ _ _ (sym (at-inserts-here .inserts-here .ensures) ∙ at-if3 .if3 .taken) refl
     refl (omega arith) (at-put-element .put-element .ensures)
-
-descend-reach-requires : (t : ℕ) → descend-lts.Need-reach-requires (claims t) (descend-at t) descend.Post
-descend-reach-requires t c κs = search needs
-
-descend-same-length-5 : (t : ℕ) → descend-lts.Need-same-length-5 (claims t) (descend-at t) descend.Post
-descend-same-length-5 t c = search needs
-
-descend-same-length-6 : (t : ℕ) → descend-lts.Need-same-length-6 (claims t) (descend-at t) descend.Post
-descend-same-length-6 t c = search needs
 
 descend-returns-4 : (t : ℕ) → descend-lts.Need-returns-4 (claims t) (descend-at t) descend.Post
 descend-returns-4 t c =
@@ -115,21 +79,6 @@ descend-returns-4 t c =
     descend-stays (at-start .args .o) _ _ _ _ _ _ _ _ _ _ _ _ (omega (arith, at-if1 .if1 .left))
     (sym (at-inserts-here .inserts-here .ensures) ∙ at-if3 .if3 .left) refl refl refl (omega (arith, at-if1 .if1 .left))
     (omega (arith, at-if2 .if2 .left)) _ _ (at-reach .reach .result) (at-reach .reach .ensures) (not-true _ (c .if4 .taken))
-
-descend-finish-requires : (t : ℕ) → descend-lts.Need-finish-requires (claims t) (descend-at t) descend.Post
-descend-finish-requires t c κs = search needs
-
-descend-same-length-7 : (t : ℕ) → descend-lts.Need-same-length-7 (claims t) (descend-at t) descend.Post
-descend-same-length-7 t c = search needs
-
-descend-same-length-8 : (t : ℕ) → descend-lts.Need-same-length-8 (claims t) (descend-at t) descend.Post
-descend-same-length-8 t c = search needs
-
-descend-same-length-9 : (t : ℕ) → descend-lts.Need-same-length-9 (claims t) (descend-at t) descend.Post
-descend-same-length-9 t c = search needs
-
-descend-same-length-10 : (t : ℕ) → descend-lts.Need-same-length-10 (claims t) (descend-at t) descend.Post
-descend-same-length-10 t c = search needs
 
 descend-returns-5 : (t : ℕ) → descend-lts.Need-returns-5 (claims t) (descend-at t) descend.Post
 descend-returns-5 t c =
@@ -147,12 +96,6 @@ descend-returns-5 t c =
     (omega (arith, at-if2 .if2 .left)) _ _ (at-reach .reach .result) (at-reach .reach .ensures) _ _ _ _ _
     (not-false _ (at-if4 .if4 .left)) (at-if5 .if5 .taken) (at-finish .finish .ensures)
 
-descend-same-length-11 : (t : ℕ) → descend-lts.Need-same-length-11 (claims t) (descend-at t) descend.Post
-descend-same-length-11 t c = search needs
-
-descend-same-length-12 : (t : ℕ) → descend-lts.Need-same-length-12 (claims t) (descend-at t) descend.Post
-descend-same-length-12 t c = search needs
-
 descend-returns-6 : (t : ℕ) → descend-lts.Need-returns-6 (claims t) (descend-at t) descend.Post
 descend-returns-6 t c =
     let at-if1 = c .before .before .before .before .before .before .before .before
@@ -160,26 +103,11 @@ descend-returns-6 t c =
     let at-start = at-if1 .before .before .before .before .before .before in
     descend-odd (at-start .args .o) _ _ _ _ _ _ _ _ (omega (arith, at-if1 .if1 .left, c .before .if5 .left)) (c .if6 .taken)
 
-descend-shared-slice-read-third : (t : ℕ) → descend-lts.Need-shared-slice-read-third (claims t) (descend-at t) descend.Post
-descend-shared-slice-read-third t c = omega arith
-
-descend-past-requires : (t : ℕ) → descend-lts.Need-past-requires (claims t) (descend-at t) descend.Post
-descend-past-requires t c κs = search needs
-
 descend-add-descend : (t : ℕ) → descend-lts.Need-add-descend (claims t) (descend-at t) descend.Post
 descend-add-descend t c =
     let at-if2 = c .before .before .before .before .before .before .before .before .before .before .before
     .before .before .before .before .before .before .before .before .before .before .before .before .before .before in
     omega (arith, at-if2 .if2 .left)
-
-descend-sub-descend : (t : ℕ) → descend-lts.Need-sub-descend (claims t) (descend-at t) descend.Post
-descend-sub-descend t c = omega arith
-
-descend-part-descend-start : (t : ℕ) → descend-lts.Need-part-descend-start (claims t) (descend-at t) descend.Post
-descend-part-descend-start t c = omega arith
-
-descend-part-descend-end : (t : ℕ) → descend-lts.Need-part-descend-end (claims t) (descend-at t) descend.Post
-descend-part-descend-end t c = omega arith
 
 descend-descend-requires : (t : ℕ) → descend-lts.Need-descend-requires (claims t) (descend-at t) descend.Post
 descend-descend-requires t c κs =
@@ -187,9 +115,6 @@ descend-descend-requires t c κs =
     .before .before .before .before .before .before .before .before .before .before .before .before .before .before .before in
     let at-start = at-if1 .before .before .before .before .before .before in
     (omega (arith, part-shorter (at-start .args .way .now) (omega (arith, at-if1 .if1 .left)), at-start .pre .0), tt)
-
-descend-enter-requires : (t : ℕ) → descend-lts.Need-enter-requires (claims t) (descend-at t) descend.Post
-descend-enter-requires t c κs = search needs
 
 descend-same-length-13 : (t : ℕ) → descend-lts.Need-same-length-13 (claims t) (descend-at t) descend.Post
 descend-same-length-13 t c =
@@ -206,12 +131,6 @@ descend-same-length-14 t c =
     let at-reach = at-descend .before .before .before .before .before .before .before .before
     .before .before .before .before .before .before .before .before .before .before .before in
     at-descend .descend .kept .1 .0 ∙ at-reach .reach .kept .1 .0
-
-descend-same-length-15 : (t : ℕ) → descend-lts.Need-same-length-15 (claims t) (descend-at t) descend.Post
-descend-same-length-15 t c = search needs
-
-descend-same-length-16 : (t : ℕ) → descend-lts.Need-same-length-16 (claims t) (descend-at t) descend.Post
-descend-same-length-16 t c = search needs
 
 descend-returns-7 : (t : ℕ) → descend-lts.Need-returns-7 (claims t) (descend-at t) descend.Post
 descend-returns-7 t c =
@@ -238,39 +157,39 @@ pub +descend-spec : {M : Type 1} → statement M
     descend.Post
     (descend-returns t)
     (descend-returns-2 t)
-    (descend-shared-slice-read-hi t)
-    (descend-shared-slice-read-lo t)
-    (descend-shared-slice-read-len t)
-    (descend-inserts-here-requires t)
-    (descend-put-element-requires t)
-    (descend-same-length t)
-    (descend-same-length-2 t)
-    (descend-same-length-3 t)
-    (descend-same-length-4 t)
+    (λ c. omega arith)
+    (λ c. omega arith)
+    (λ c. omega arith)
+    (λ c κs. search needs)
+    (λ c κs. search needs)
+    (λ c. search needs)
+    (λ c. search needs)
+    (λ c. search needs)
+    (λ c. search needs)
     (descend-returns-3 t)
-    (descend-reach-requires t)
-    (descend-same-length-5 t)
-    (descend-same-length-6 t)
+    (λ c κs. search needs)
+    (λ c. search needs)
+    (λ c. search needs)
     (descend-returns-4 t)
-    (descend-finish-requires t)
-    (descend-same-length-7 t)
-    (descend-same-length-8 t)
-    (descend-same-length-9 t)
-    (descend-same-length-10 t)
+    (λ c κs. search needs)
+    (λ c. search needs)
+    (λ c. search needs)
+    (λ c. search needs)
+    (λ c. search needs)
     (descend-returns-5 t)
-    (descend-same-length-11 t)
-    (descend-same-length-12 t)
+    (λ c. search needs)
+    (λ c. search needs)
     (descend-returns-6 t)
-    (descend-shared-slice-read-third t)
-    (descend-past-requires t)
+    (λ c. omega arith)
+    (λ c κs. search needs)
     (descend-add-descend t)
-    (descend-sub-descend t)
-    (descend-part-descend-start t)
-    (descend-part-descend-end t)
+    (λ c. omega arith)
+    (λ c. omega arith)
+    (λ c. omega arith)
     (descend-descend-requires t)
-    (descend-enter-requires t)
+    (λ c κs. search needs)
     (descend-same-length-13 t)
     (descend-same-length-14 t)
-    (descend-same-length-15 t)
-    (descend-same-length-16 t)
+    (λ c. search needs)
+    (λ c. search needs)
     (descend-returns-7 t)

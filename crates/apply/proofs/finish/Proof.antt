@@ -5,21 +5,6 @@ use borrow.Author.Needs.{needs}
 use Rattle.apply.proofs.finish.Statement.{statement}
 use Rattle.apply.proofs.finish.Tie as tie
 
-is-delete-requires : tie.Need-is-delete-requires
-is-delete-requires c κs = search needs
-
-clear-block-requires : tie.Need-clear-block-requires
-clear-block-requires c κs = search needs
-
-same-length : tie.Need-same-length
-same-length c = search needs
-
-same-length-2 : tie.Need-same-length-2
-same-length-2 c = search needs
-
-same-length-3 : tie.Need-same-length-3
-same-length-3 c = search needs
-
 returns : tie.Need-returns
 returns c =
     let at-clear-block = c .before .before .before .before .before .before in
@@ -28,21 +13,6 @@ returns c =
     let at-start = at-is-delete .before .before .before .before .before in
     finish-clear (at-start .args .o) _ _ _ _ _ _ _ _ _ _ (sym (at-is-delete .is-delete .ensures) ∙ at-if1 .if1 .taken)
     (at-clear-block .clear-block .ensures)
-
-given-in-requires : tie.Need-given-in-requires
-given-in-requires c κs = search needs
-
-give-requires : tie.Need-give-requires
-give-requires c κs = search needs
-
-same-length-4 : tie.Need-same-length-4
-same-length-4 c = search needs
-
-same-length-5 : tie.Need-same-length-5
-same-length-5 c = search needs
-
-same-length-6 : tie.Need-same-length-6
-same-length-6 c = search needs
 
 returns-2 : tie.Need-returns-2
 returns-2 c =
@@ -58,15 +28,15 @@ pub finish-spec : {M : Type 1} → statement M
 finish-spec =
     tie.close
     (tie.spec
-    is-delete-requires
-    clear-block-requires
-    same-length
-    same-length-2
-    same-length-3
+    (λ c κs. search needs)
+    (λ c κs. search needs)
+    (λ c. search needs)
+    (λ c. search needs)
+    (λ c. search needs)
     returns
-    given-in-requires
-    give-requires
-    same-length-4
-    same-length-5
-    same-length-6
+    (λ c κs. search needs)
+    (λ c κs. search needs)
+    (λ c. search needs)
+    (λ c. search needs)
+    (λ c. search needs)
     returns-2)

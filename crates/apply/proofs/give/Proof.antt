@@ -7,30 +7,6 @@ use borrow.Author.Needs.{needs}
 use Rattle.apply.proofs.give.Statement.{statement}
 use Rattle.apply.proofs.give.Tie as tie
 
-branch-of-requires : tie.Need-branch-of-requires
-branch-of-requires c κs = search needs
-
-mark-row-requires : tie.Need-mark-row-requires
-mark-row-requires c κs = search needs
-
-kind-of-requires : tie.Need-kind-of-requires
-kind-of-requires c κs = search needs
-
-parts-of-requires : tie.Need-parts-of-requires
-parts-of-requires c κs = search needs
-
-set-value-requires : tie.Need-set-value-requires
-set-value-requires c κs = search needs
-
-same-length : tie.Need-same-length
-same-length c = search needs
-
-same-length-2 : tie.Need-same-length-2
-same-length-2 c = search needs
-
-same-length-3 : tie.Need-same-length-3
-same-length-3 c = search needs
-
 returns : tie.Need-returns
 returns c =
     let at-set-value = c .before .before .before .before in
@@ -41,24 +17,6 @@ returns c =
     let at-branch-of = at-if1 .before in
     give-plain _ _ _ _ _ _ _ _ _ _ _ _ _ _ _ _ _ _ _ (omega (arith, at-branch-of .branch-of .ensures, at-if1 .if1 .taken))
     (at-kind-of .kind-of .ensures) (at-parts-of .parts-of .ensures) (at-mark-row .mark-row .ensures) (at-set-value .set-value .ensures)
-
-clear-block-requires : tie.Need-clear-block-requires
-clear-block-requires c κs = search needs
-
-mark-row-requires-2 : tie.Need-mark-row-requires-2
-mark-row-requires-2 c κs = search needs
-
-flag-row-requires : tie.Need-flag-row-requires
-flag-row-requires c κs = search needs
-
-same-length-4 : tie.Need-same-length-4
-same-length-4 c = search needs
-
-same-length-5 : tie.Need-same-length-5
-same-length-5 c = search needs
-
-same-length-6 : tie.Need-same-length-6
-same-length-6 c = search needs
 
 returns-2 : tie.Need-returns-2
 returns-2 c =
@@ -75,19 +33,19 @@ pub give-spec : {M : Type 1} → statement M
 give-spec =
     tie.close
     (tie.spec
-    branch-of-requires
-    mark-row-requires
-    kind-of-requires
-    parts-of-requires
-    set-value-requires
-    same-length
-    same-length-2
-    same-length-3
+    (λ c κs. search needs)
+    (λ c κs. search needs)
+    (λ c κs. search needs)
+    (λ c κs. search needs)
+    (λ c κs. search needs)
+    (λ c. search needs)
+    (λ c. search needs)
+    (λ c. search needs)
     returns
-    clear-block-requires
-    mark-row-requires-2
-    flag-row-requires
-    same-length-4
-    same-length-5
-    same-length-6
+    (λ c κs. search needs)
+    (λ c κs. search needs)
+    (λ c κs. search needs)
+    (λ c. search needs)
+    (λ c. search needs)
+    (λ c. search needs)
     returns-2)

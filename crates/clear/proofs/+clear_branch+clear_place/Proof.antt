@@ -71,14 +71,6 @@ clear-branch-loop-holds t c =
     let x = passing (a .args .heads .now) (a .args .marks .now) (a .args .values .now) (a .args .p) in
     (refl, refl, refl, walks-start d (a .args .rows) (a .args .n) (a .args .left) x (a .pre .1))
 
-clear-branch-mul-if3 : (t : ℕ) → clear-branch-lts.Need-mul-if3
-    (clear-place-below t, clear-place.Post) (clear-branch-at t) clear-branch.Post clear-branch-Inv-loop clear-branch-μ-loop
-clear-branch-mul-if3 t c = omega arith
-
-clear-branch-slice-read-if3 : (t : ℕ) → clear-branch-lts.Need-slice-read-if3
-    (clear-place-below t, clear-place.Post) (clear-branch-at t) clear-branch.Post clear-branch-Inv-loop clear-branch-μ-loop
-clear-branch-slice-read-if3 t c = omega arith
-
 clear-branch-same-length : (t : ℕ) → clear-branch-lts.Need-same-length
     (clear-place-below t, clear-place.Post) (clear-branch-at t) clear-branch.Post clear-branch-Inv-loop clear-branch-μ-loop
 clear-branch-same-length t c =
@@ -108,10 +100,6 @@ clear-branch-returns-2 t c =
     let l = at-loop .loop in
     let y = passing (l .heads) (l .marks) (l .values) (l .q) in
     walks-stop d (a .args .rows) (a .args .n) (a .args .left) x y (l .inv .3) (at-if2 .if2 .taken) (c .if3 .taken)
-
-clear-branch-sub-clear-place : (t : ℕ) → clear-branch-lts.Need-sub-clear-place
-    (clear-place-below t, clear-place.Post) (clear-branch-at t) clear-branch.Post clear-branch-Inv-loop clear-branch-μ-loop
-clear-branch-sub-clear-place t c = omega arith
 
 clear-branch-clear-place-requires : (t : ℕ) → clear-branch-lts.Need-clear-place-requires
     (clear-place-below t, clear-place.Post) (clear-branch-at t) clear-branch.Post clear-branch-Inv-loop clear-branch-μ-loop
@@ -157,18 +145,6 @@ clear-branch-loop-again t c =
           (g .ensures) (omega arith),
     )
 
-clear-branch-same-length-4 : (t : ℕ) → clear-branch-lts.Need-same-length-4
-    (clear-place-below t, clear-place.Post) (clear-branch-at t) clear-branch.Post clear-branch-Inv-loop clear-branch-μ-loop
-clear-branch-same-length-4 t c = c .before .before .loop .inv .0
-
-clear-branch-same-length-5 : (t : ℕ) → clear-branch-lts.Need-same-length-5
-    (clear-place-below t, clear-place.Post) (clear-branch-at t) clear-branch.Post clear-branch-Inv-loop clear-branch-μ-loop
-clear-branch-same-length-5 t c = c .before .before .loop .inv .1
-
-clear-branch-same-length-6 : (t : ℕ) → clear-branch-lts.Need-same-length-6
-    (clear-place-below t, clear-place.Post) (clear-branch-at t) clear-branch.Post clear-branch-Inv-loop clear-branch-μ-loop
-clear-branch-same-length-6 t c = c .before .before .loop .inv .2
-
 clear-branch-returns-3 : (t : ℕ) → clear-branch-lts.Need-returns-3
     (clear-place-below t, clear-place.Post) (clear-branch-at t) clear-branch.Post clear-branch-Inv-loop clear-branch-μ-loop
 clear-branch-returns-3 t c =
@@ -179,14 +155,6 @@ clear-branch-returns-3 t c =
     let l = at-loop .loop in
     let y = passing (l .heads) (l .marks) (l .values) (l .q) in
     walks-end d (a .args .rows) (a .args .n) (a .args .left) x y (l .inv .3) (c .if2 .left)
-
-clear-place-mul-n : (t : ℕ) → clear-place-lts.Need-mul-n
-    (clear-row-reads.Asked, clear-row-reads.Learnt, clear-branch-below t, clear-branch.Post) (clear-place-at t) clear-place.Post
-clear-place-mul-n t c = omega arith
-
-clear-place-slice-read-n : (t : ℕ) → clear-place-lts.Need-slice-read-n
-    (clear-row-reads.Asked, clear-row-reads.Learnt, clear-branch-below t, clear-branch.Post) (clear-place-at t) clear-place.Post
-clear-place-slice-read-n t c = omega arith
 
 clear-place-clear-row-requires : (t : ℕ) → clear-place-lts.Need-clear-row-requires
     (clear-row-reads.Asked, clear-row-reads.Learnt, clear-branch-below t, clear-branch.Post) (clear-place-at t) clear-place.Post
@@ -255,26 +223,26 @@ pub +clear-branch+clear-place-spec : {M : Type 1} → statement M
     clear-branch-μ-loop
     (clear-branch-returns t)
     (clear-branch-loop-holds t)
-    (clear-branch-mul-if3 t)
-    (clear-branch-slice-read-if3 t)
+    (λ c. omega arith)
+    (λ c. omega arith)
     (clear-branch-same-length t)
     (clear-branch-same-length-2 t)
     (clear-branch-same-length-3 t)
     (clear-branch-returns-2 t)
-    (clear-branch-sub-clear-place t)
+    (λ c. omega arith)
     (clear-branch-clear-place-requires t)
     (clear-branch-loop-less t)
     (clear-branch-loop-again t)
-    (clear-branch-same-length-4 t)
-    (clear-branch-same-length-5 t)
-    (clear-branch-same-length-6 t)
+    (λ c. c .before .before .loop .inv .0)
+    (λ c. c .before .before .loop .inv .1)
+    (λ c. c .before .before .loop .inv .2)
     (clear-branch-returns-3 t))
     λ t. clear-place-lts.spec
     (clear-row-reads.Asked, clear-row-reads.Learnt, clear-branch-below t, clear-branch.Post)
     (clear-place-at t)
     clear-place.Post
-    (clear-place-mul-n t)
-    (clear-place-slice-read-n t)
+    (λ c. omega arith)
+    (λ c. omega arith)
     (clear-place-clear-row-requires t)
     (clear-place-clear-branch-requires t)
     (clear-place-same-length t)

@@ -49,24 +49,6 @@ returns-6 c =
     not-sitting (a .args .d .at) (a .args .heads .now) (a .args .marks .now) (a .args .values .now) (a .args .c) (a .args .s)
     (λ z. omega arith)
 
-mul-words : tie.Need-mul-words
-mul-words c = search needs
-
-mul-value : tie.Need-mul-value
-mul-value c = search needs
-
-clear-place-requires : tie.Need-clear-place-requires
-clear-place-requires c κs = search needs
-
-same-length : tie.Need-same-length
-same-length c = search needs
-
-same-length-2 : tie.Need-same-length-2
-same-length-2 c = search needs
-
-same-length-3 : tie.Need-same-length-3
-same-length-3 c = search needs
-
 returns-7 : tie.Need-returns-7
 returns-7 c =
     let at-clear-place = c .before .before .before .before .before .before .before .before in
@@ -77,15 +59,6 @@ returns-7 c =
     far-marks (a .args .d .at) (a .args .heads .now) (a .args .marks .now) (a .args .values .now) (a .args .c) (a .args .s) y
     (p .ensures) (c .if7 .taken)
 
-same-length-4 : tie.Need-same-length-4
-same-length-4 c = search needs
-
-same-length-5 : tie.Need-same-length-5
-same-length-5 c = search needs
-
-same-length-6 : tie.Need-same-length-6
-same-length-6 c = search needs
-
 returns-8 : tie.Need-returns-8
 returns-8 c =
     let at-clear-place = c .before .before .before .before .before .before .before .before .before .before in
@@ -95,12 +68,6 @@ returns-8 c =
     let y = passing (p .last .0) (p .last .1 .0) (p .last .1 .1 .0) (p .result) in
     far-values (a .args .d .at) (a .args .heads .now) (a .args .marks .now) (a .args .values .now) (a .args .c) (a .args .s) y
     (p .ensures) (c .if8 .taken)
-
-sub-gone : tie.Need-sub-gone
-sub-gone c = search needs
-
-sub-gone-words : tie.Need-sub-gone-words
-sub-gone-words c = search needs
 
 close-requires : tie.Need-close-requires
 close-requires c κs =
@@ -126,21 +93,6 @@ close-requires-2 c κs =
     let j = at-if5 .if5 .left in
     (w .values-low, i, omega arith)
 
-sub-left : tie.Need-sub-left
-sub-left c = search needs
-
-sub-words-left : tie.Need-sub-words-left
-sub-words-left c = search needs
-
-same-length-7 : tie.Need-same-length-7
-same-length-7 c = search needs
-
-same-length-8 : tie.Need-same-length-8
-same-length-8 c = search needs
-
-same-length-9 : tie.Need-same-length-9
-same-length-9 c = search needs
-
 returns-9 : tie.Need-returns-9
 returns-9 c =
     let at-close2 = c .before .before in
@@ -164,24 +116,24 @@ clear-block-spec =
     returns-4
     returns-5
     returns-6
-    mul-words
-    mul-value
-    clear-place-requires
-    same-length
-    same-length-2
-    same-length-3
+    (λ c. search needs)
+    (λ c. search needs)
+    (λ c κs. search needs)
+    (λ c. search needs)
+    (λ c. search needs)
+    (λ c. search needs)
     returns-7
-    same-length-4
-    same-length-5
-    same-length-6
+    (λ c. search needs)
+    (λ c. search needs)
+    (λ c. search needs)
     returns-8
-    sub-gone
-    sub-gone-words
+    (λ c. search needs)
+    (λ c. search needs)
     close-requires
     close-requires-2
-    sub-left
-    sub-words-left
-    same-length-7
-    same-length-8
-    same-length-9
+    (λ c. search needs)
+    (λ c. search needs)
+    (λ c. search needs)
+    (λ c. search needs)
+    (λ c. search needs)
     returns-9)

@@ -4,12 +4,9 @@ use borrow.Author.Needs.{needs}
 use Rattle.counters.proofs.covered.Statement.{statement}
 use Rattle.counters.proofs.covered.Tie as tie
 
-entry-requires : tie.Need-entry-requires
-entry-requires c κs = search needs
-
 returns : tie.Need-returns
 unfolding covered
 returns c = rw (c .entry .ensures)
 
 pub covered-spec : {M : Type 1} → statement M
-covered-spec = tie.close (tie.spec entry-requires returns)
+covered-spec = tie.close (tie.spec (λ c κs. search needs) returns)

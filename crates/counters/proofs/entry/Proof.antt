@@ -4,22 +4,17 @@ use borrow.Author.Needs.{needs}
 use Rattle.counters.proofs.entry.Statement.{statement}
 use Rattle.counters.proofs.entry.Tie as tie
 
-mul-wide : tie.Need-mul-wide
-mul-wide c = search needs
-
-element-copy-out-wide : tie.Need-element-copy-out-wide
-element-copy-out-wide c = search needs
-
-wide-requires : tie.Need-wide-requires
-wide-requires c κs = search needs
-
-returns : tie.Need-returns
-returns c = search needs
-
 returns-2 : tie.Need-returns-2
 returns-2 c =
     let a = c .before in
     no-entry (a .args .t1 .at) (a .args .n) (eight (a .args .t1 .at) (a .good .0 .1 .1 .0 .1 .0 .1)) (c .if1 .left)
 
 pub entry-spec : {M : Type 1} → statement M
-entry-spec = tie.close (tie.spec mul-wide element-copy-out-wide wide-requires returns returns-2)
+entry-spec =
+    tie.close
+    (tie.spec
+    (λ c. search needs)
+    (λ c. search needs)
+    (λ c κs. search needs)
+    (λ c. search needs)
+    returns-2)

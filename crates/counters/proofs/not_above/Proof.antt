@@ -4,12 +4,9 @@ use borrow.Author.Needs.{needs}
 use Rattle.counters.proofs.not_above.Statement.{statement}
 use Rattle.counters.proofs.not_above.Tie as tie
 
-all-below-requires : tie.Need-all-below-requires
-all-below-requires c κs = search needs
-
 returns : tie.Need-returns
 unfolding notAbove
 returns c = λ o e f. rw (c .all-below .ensures, e, f)
 
 pub not-above-spec : {M : Type 1} → statement M
-not-above-spec = tie.close (tie.spec all-below-requires returns)
+not-above-spec = tie.close (tie.spec (λ c κs. search needs) returns)

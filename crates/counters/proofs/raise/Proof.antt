@@ -6,15 +6,6 @@ use borrow.Author.Needs.{needs}
 use Rattle.counters.proofs.raise.Statement.{statement}
 use Rattle.counters.proofs.raise.Tie as tie
 
-cast-r : tie.Need-cast-r
-cast-r c = search needs
-
-mul-r : tie.Need-mul-r
-mul-r c = search needs
-
-element-write-r : tie.Need-element-write-r
-element-write-r c = search needs
-
 returns : tie.Need-returns
 unfolding raised
 returns c = rw (le-leb (c .before .args .id / 8) 4294967295 (c .if1 .taken))
@@ -24,4 +15,6 @@ unfolding raised
 returns-2 c = rw (lt-leb (c .before .args .id / 8) 4294967295 (c .if1 .left))
 
 pub raise-spec : {M : Type 1} → statement M
-raise-spec = tie.close (tie.spec cast-r mul-r element-write-r returns returns-2)
+raise-spec =
+    tie.close
+    (tie.spec (λ c. search needs) (λ c. search needs) (λ c. search needs) returns returns-2)

@@ -6,21 +6,12 @@ use borrow.Author.Needs.{needs}
 use Rattle.counters.proofs.ready.Statement.{statement}
 use Rattle.counters.proofs.ready.Tie as tie
 
-entry-requires : tie.Need-entry-requires
-entry-requires c κs = search needs
-
-entry-requires-2 : tie.Need-entry-requires-2
-entry-requires-2 c κs = search needs
-
 returns : tie.Need-returns
 unfolding ready
 returns c =
     let at-start = c .before .before .before in
     let a = at-start .args in
     rw (ne-eqb (entry (a .d .at) (entryOf (a .id))) (entry (a .s .at) (entryOf (a .id))) (λ e. c .if1 .taken (omega arith)))
-
-at-most-requires : tie.Need-at-most-requires
-at-most-requires c κs = search needs
 
 returns-2 : tie.Need-returns-2
 unfolding ready
@@ -31,4 +22,10 @@ returns-2 c =
 
 pub ready-spec : {M : Type 1} → statement M
 ready-spec =
-    tie.close (tie.spec entry-requires entry-requires-2 returns at-most-requires returns-2)
+    tie.close
+    (tie.spec
+    (λ c κs. search needs)
+    (λ c κs. search needs)
+    returns
+    (λ c κs. search needs)
+    returns-2)

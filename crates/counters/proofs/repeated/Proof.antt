@@ -4,12 +4,9 @@ use borrow.Author.Needs.{needs}
 use Rattle.counters.proofs.repeated.Statement.{statement}
 use Rattle.counters.proofs.repeated.Tie as tie
 
-entry-requires : tie.Need-entry-requires
-entry-requires c κs = search needs
-
 returns : tie.Need-returns
 unfolding repeated
 returns c = λ o e. rw (c .entry .ensures, e)
 
 pub repeated-spec : {M : Type 1} → statement M
-repeated-spec = tie.close (tie.spec entry-requires returns)
+repeated-spec = tie.close (tie.spec (λ c κs. search needs) returns)

@@ -14,27 +14,12 @@ Inv-loop v t n₀ n = (1 ≤ n) × (n ≤ 20) × (1 < n → 10 ^ (n - 1) ≤ v)
 abbrev μ-loop : tie.MeasureT-loop
 μ-loop v t n₀ n = 20 - n
 
-loop-holds : tie.Need-loop-holds Inv-loop μ-loop
-loop-holds c = (omega arith, omega arith, λ h. absurd (omega arith))
-
-mul-if1 : tie.Need-mul-if1 Inv-loop μ-loop
-mul-if1 c = search needs
-
-element-copy-out-if1 : tie.Need-element-copy-out-if1 Inv-loop μ-loop
-element-copy-out-if1 c = search needs
-
 returns : tie.Need-returns Inv-loop μ-loop
 returns c =
     let at-loop = c .before .before .before in
     let at-pre = at-loop .before in
     let p = power _ (at-loop .loop .n) (at-pre .pre) (omega arith) in
     (size-is _ _ (at-loop .loop .inv .0) (omega arith) (at-loop .loop .inv .2), omega arith, omega arith)
-
-add-n : tie.Need-add-n Inv-loop μ-loop
-add-n c = search needs
-
-loop-less : tie.Need-loop-less Inv-loop μ-loop
-loop-less c = search needs
 
 loop-again : tie.Need-loop-again Inv-loop μ-loop
 loop-again c =
@@ -59,11 +44,11 @@ decimal-size-spec =
     (tie.spec
     Inv-loop
     μ-loop
-    loop-holds
-    mul-if1
-    element-copy-out-if1
+    (λ c. (omega arith, omega arith, λ h. absurd (omega arith)))
+    (λ c. search needs)
+    (λ c. search needs)
     returns
-    add-n
-    loop-less
+    (λ c. search needs)
+    (λ c. search needs)
     loop-again
     returns-2)

@@ -8,25 +8,10 @@ use borrow.Author.Needs.{needs}
 use Rattle.decimal.proofs.spelled.Statement.{statement}
 use Rattle.decimal.proofs.spelled.Tie as tie
 
-returns : tie.Need-returns
-returns c = (refl, refl, width-is _ _ (omega arith) (c .before .pre .1) (λ h. absurd (omega arith)))
-
-returns-2 : tie.Need-returns-2
-returns-2 c = λ e. omega (arith, width-some (c .before .before .args .v))
-
 returns-3 : tie.Need-returns-3
 returns-3 c =
     let at-start = c .before .before .before in
     λ e. omega (arith, width-most (at-start .args .v) (omega arith))
-
-sub-if4 : tie.Need-sub-if4
-sub-if4 c = search needs
-
-mul-if4 : tie.Need-mul-if4
-mul-if4 c = search needs
-
-element-copy-out-if4 : tie.Need-element-copy-out-if4
-element-copy-out-if4 c = search needs
 
 returns-4 : tie.Need-returns-4
 returns-4 c =
@@ -50,4 +35,12 @@ returns-5 c =
 pub spelled-spec : {M : Type 1} → statement M
 spelled-spec =
     tie.close
-    (tie.spec returns returns-2 returns-3 sub-if4 mul-if4 element-copy-out-if4 returns-4 returns-5)
+    (tie.spec
+    (λ c. (refl, refl, width-is _ _ (omega arith) (c .before .pre .1) (λ h. absurd (omega arith))))
+    (λ c. λ e. omega (arith, width-some (c .before .before .args .v)))
+    returns-3
+    (λ c. search needs)
+    (λ c. search needs)
+    (λ c. search needs)
+    returns-4
+    returns-5)

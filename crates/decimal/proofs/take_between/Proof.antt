@@ -8,15 +8,6 @@ use borrow.Author.Needs.{needs}
 use Rattle.decimal.proofs.take_between.Statement.{statement}
 use Rattle.decimal.proofs.take_between.Tie as tie
 
-take-decimal-requires : tie.Need-take-decimal-requires
-take-decimal-requires c κs = c .before .pre
-
-enum-known-value : tie.Need-enum-known-value
-enum-known-value c = search needs
-
-enum-told : tie.Need-enum-told
-enum-told c = search needs
-
 returns : tie.Need-returns
 returns c =
     let at-take-decimal = c .before .before in
@@ -43,4 +34,10 @@ returns-3 c =
 pub take-between-spec : {M : Type 1} → statement M
 take-between-spec =
     tie.close
-    (tie.spec take-decimal-requires enum-known-value enum-told returns returns-2 returns-3)
+    (tie.spec
+    (λ c κs. c .before .pre)
+    (λ c. search needs)
+    (λ c. search needs)
+    returns
+    returns-2
+    returns-3)

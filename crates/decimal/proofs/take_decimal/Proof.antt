@@ -17,30 +17,12 @@ Inv-loop s a max t tenth v₀ i₀ v i = Run max s a i v
 abbrev μ-loop : tie.MeasureT-loop
 μ-loop s a max t tenth v₀ i₀ v i = length s - i
 
-loop-holds : tie.Need-loop-holds Inv-loop μ-loop
-loop-holds c = start _ _ _
-
-shared-slice-read-b : tie.Need-shared-slice-read-b Inv-loop μ-loop
-shared-slice-read-b c = search needs
-
-sub-spelled : tie.Need-sub-spelled Inv-loop μ-loop
-sub-spelled c = search needs
-
-spelled-requires : tie.Need-spelled-requires Inv-loop μ-loop
-spelled-requires c κs = search needs
-
 returns : tie.Need-returns Inv-loop μ-loop
 returns c =
     let at-loop-test = c .before .before .before in
     let at-loop = at-loop-test .before in
     settled _ _ _ _ _ (at-loop .loop .inv) _ refl (low-stops _ _ (at-loop-test .loop-test .taken) (c .before .if1 .taken))
     (c .spelled .result) (c .spelled .ensures)
-
-sub-spelled-2 : tie.Need-sub-spelled-2 Inv-loop μ-loop
-sub-spelled-2 c = search needs
-
-spelled-requires-2 : tie.Need-spelled-requires-2 Inv-loop μ-loop
-spelled-requires-2 c κs = search needs
 
 returns-2 : tie.Need-returns-2 Inv-loop μ-loop
 returns-2 c =
@@ -59,15 +41,6 @@ returns-3 c =
     (record { inside = at-loop-test .loop-test .taken; low = at-if1 .if1 .left; high = c .before .if2 .left; digit = refl })
     (omega arith)
 
-wide-requires : tie.Need-wide-requires Inv-loop μ-loop
-wide-requires c κs = tt
-
-mul-w : tie.Need-mul-w Inv-loop μ-loop
-mul-w c = search needs
-
-sub-if4 : tie.Need-sub-if4 Inv-loop μ-loop
-sub-if4 c = search needs
-
 returns-4 : tie.Need-returns-4 Inv-loop μ-loop
 returns-4 c =
     let at-if2 = c .before .before .before in
@@ -78,15 +51,6 @@ returns-4 c =
     (record { inside = at-loop-test .loop-test .taken; low = at-if1 .if1 .left; high = at-if2 .if2 .left; digit = omega arith })
     (omega arith)
 
-add-v : tie.Need-add-v Inv-loop μ-loop
-add-v c = search needs
-
-add-i : tie.Need-add-i Inv-loop μ-loop
-add-i c = search needs
-
-loop-less : tie.Need-loop-less Inv-loop μ-loop
-loop-less c = search needs
-
 loop-again : tie.Need-loop-again Inv-loop μ-loop
 loop-again c =
     let at-if2 = c .before .before .before in
@@ -96,12 +60,6 @@ loop-again c =
     more _ _ _ _ _ (at-loop .loop .inv) (c .before .wide .result)
     (record { inside = at-loop-test .loop-test .taken; low = at-if1 .if1 .left; high = at-if2 .if2 .left; digit = omega arith })
     (omega arith)
-
-sub-spelled-3 : tie.Need-sub-spelled-3 Inv-loop μ-loop
-sub-spelled-3 c = search needs
-
-spelled-requires-3 : tie.Need-spelled-requires-3 Inv-loop μ-loop
-spelled-requires-3 c κs = search needs
 
 returns-5 : tie.Need-returns-5 Inv-loop μ-loop
 returns-5 c =
@@ -115,23 +73,23 @@ take-decimal-spec =
     (tie.spec
     Inv-loop
     μ-loop
-    loop-holds
-    shared-slice-read-b
-    sub-spelled
-    spelled-requires
+    (λ c. start _ _ _)
+    (λ c. search needs)
+    (λ c. search needs)
+    (λ c κs. search needs)
     returns
-    sub-spelled-2
-    spelled-requires-2
+    (λ c. search needs)
+    (λ c κs. search needs)
     returns-2
     returns-3
-    wide-requires
-    mul-w
-    sub-if4
+    (λ c κs. tt)
+    (λ c. search needs)
+    (λ c. search needs)
     returns-4
-    add-v
-    add-i
-    loop-less
+    (λ c. search needs)
+    (λ c. search needs)
+    (λ c. search needs)
     loop-again
-    sub-spelled-3
-    spelled-requires-3
+    (λ c. search needs)
+    (λ c κs. search needs)
     returns-5)

@@ -6,12 +6,8 @@ use lib.ListN.{length}
 use Rattle.tables.specs.Holding.{four}
 use Rattle.feed.specs.Feeding.{Feeds}
 use Rattle.feed.proofs.Feeding.{feeds-none, feeds-on}
-use borrow.Author.Needs.{needs}
 use Rattle.feed.proofs.take_in.Statement.{statement}
 use Rattle.feed.proofs.take_in.Tie as tie
-use Rattle.feed.proofs.take_in.Reads as reads
-use Rattle.feed.proofs.take_in.Lts as lts
-use Rattle.feed.proofs.take_one.Reads as take-one-reads
 
 abbrev Inv-loop : tie.InvT-loop
 Inv-loop heads₀ keys₀ marks₀ values₀ waiting₀ buf last state₀ cut₀ heads keys marks values waiting state cut =

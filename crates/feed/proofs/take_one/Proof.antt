@@ -4,16 +4,6 @@ use Rattle.feed.proofs.Feeding.{is-message, is-long, is-more, one-messa
 use borrow.Author.Needs.{needs}
 use Rattle.feed.proofs.take_one.Statement.{statement}
 use Rattle.feed.proofs.take_one.Tie as tie
-use Rattle.feed.proofs.take_one.Reads as reads
-use Rattle.feed.proofs.take_one.Lts as lts
-use Rattle.stream.proofs.next_piece.Reads as next-piece-reads
-use Rattle.terminal.proofs.receive.Reads as receive-reads
-
-next-piece-requires : tie.Need-next-piece-requires
-next-piece-requires c κs = search needs
-
-enum-known-next : tie.Need-enum-known-next
-enum-known-next c = search needs
 
 sub-receive : tie.Need-sub-receive
 sub-receive c =
@@ -37,30 +27,6 @@ part-receive-end c =
       (is-message _ (at-next .next .given .1) (at-next-piece .next-piece .ensures)) .holds .high,
     )
 
-receive-requires : tie.Need-receive-requires
-receive-requires c κs = search needs
-
-enum-known-next-2 : tie.Need-enum-known-next-2
-enum-known-next-2 c = search needs
-
-enum-known-next-3 : tie.Need-enum-known-next-3
-enum-known-next-3 c = search needs
-
-same-length : tie.Need-same-length
-same-length c = search needs
-
-same-length-2 : tie.Need-same-length-2
-same-length-2 c = search needs
-
-same-length-3 : tie.Need-same-length-3
-same-length-3 c = search needs
-
-same-length-4 : tie.Need-same-length-4
-same-length-4 c = search needs
-
-same-length-5 : tie.Need-same-length-5
-same-length-5 c = search needs
-
 returns : tie.Need-returns
 returns c =
     let at-receive = c .before .before .before .before .before .before .before .before .before .before .before in
@@ -82,19 +48,19 @@ pub take-one-spec : {M : Type 1} → statement M
 take-one-spec =
     tie.close
     (tie.spec
-    next-piece-requires
-    enum-known-next
+    (λ c κs. search needs)
+    (λ c. search needs)
     sub-receive
     part-receive-start
     part-receive-end
-    receive-requires
-    enum-known-next-2
-    enum-known-next-3
-    same-length
-    same-length-2
-    same-length-3
-    same-length-4
-    same-length-5
+    (λ c κs. search needs)
+    (λ c. search needs)
+    (λ c. search needs)
+    (λ c. search needs)
+    (λ c. search needs)
+    (λ c. search needs)
+    (λ c. search needs)
+    (λ c. search needs)
     returns
     returns-2
     returns-3)

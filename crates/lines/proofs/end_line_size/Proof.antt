@@ -8,14 +8,8 @@ use borrow.Author.Needs.{needs}
 use Rattle.lines.proofs.end_line_size.Statement.{statement}
 use Rattle.lines.proofs.end_line_size.Tie as tie
 
-decimal-size-requires : tie.Need-decimal-size-requires
-decimal-size-requires c κs = search needs
-
-add-result : tie.Need-add-result
-add-result c = search needs
-
 returns : tie.Need-returns
 returns c = sized _ (end-text _) (simp length-append (omega (arith, c .decimal-size .ensures))) (omega (arith, c .decimal-size .ensures))
 
 pub end-line-size-spec : {M : Type 1} → statement M
-end-line-size-spec = tie.close (tie.spec decimal-size-requires add-result returns)
+end-line-size-spec = tie.close (tie.spec (λ c κs. search needs) (λ c. search needs) returns)

@@ -10,15 +10,9 @@ use borrow.Author.Needs.{needs}
 use Rattle.lines.proofs.key_row_size.Statement.{statement}
 use Rattle.lines.proofs.key_row_size.Tie as tie
 
-mul-result : tie.Need-mul-result
-mul-result c = search needs
-
-add-result : tie.Need-add-result
-add-result c = search needs
-
 returns : tie.Need-returns
 returns c = sized _ (key-text _) (simp length-append (omega (arith, size-hex (c .args .hi ∷ c .args .lo ∷ []) (c .args .len))))
     (omega arith)
 
 pub key-row-size-spec : {M : Type 1} → statement M
-key-row-size-spec = tie.close (tie.spec mul-result add-result returns)
+key-row-size-spec = tie.close (tie.spec (λ c. search needs) (λ c. search needs) returns)

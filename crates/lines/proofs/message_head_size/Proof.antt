@@ -8,18 +8,6 @@ use borrow.Author.Needs.{needs}
 use Rattle.lines.proofs.message_head_size.Statement.{statement}
 use Rattle.lines.proofs.message_head_size.Tie as tie
 
-id-size-requires : tie.Need-id-size-requires
-id-size-requires c κs = search needs
-
-add-result : tie.Need-add-result
-add-result c = search needs
-
-counters-size-requires : tie.Need-counters-size-requires
-counters-size-requires c κs = search needs
-
-add-result-2 : tie.Need-add-result-2
-add-result-2 c = search needs
-
 returns : tie.Need-returns
 returns c =
     sized _ (head-text _ _) (simp length-append (omega (arith, c .before .id-size .ensures, c .counters-size .ensures)))
@@ -27,4 +15,10 @@ returns c =
 
 pub message-head-size-spec : {M : Type 1} → statement M
 message-head-size-spec =
-    tie.close (tie.spec id-size-requires add-result counters-size-requires add-result-2 returns)
+    tie.close
+    (tie.spec
+    (λ c κs. search needs)
+    (λ c. search needs)
+    (λ c κs. search needs)
+    (λ c. search needs)
+    returns)

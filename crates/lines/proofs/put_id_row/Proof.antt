@@ -14,17 +14,11 @@ put-id-requires c κs = (
       (c .before .before .pre .1),
 )
 
-slice-aggregate-then-text : tie.Need-slice-aggregate-then-text
-slice-aggregate-then-text c = search needs
-
 then-text-requires : tie.Need-then-text-requires
 then-text-requires c κs =
     let at-put-id = c .before .before .before .before in
     let at-pre = at-put-id .before .before .before in
     last-room (first (at-put-id .put-id .ensures) (row-text _) (at-pre .pre .1))
-
-same-length : tie.Need-same-length
-same-length c = search needs
 
 returns : tie.Need-returns
 returns c =
@@ -36,4 +30,4 @@ returns c =
 pub put-id-row-spec : {M : Type 1} → statement M
 put-id-row-spec =
     tie.close
-    (tie.spec put-id-requires slice-aggregate-then-text then-text-requires same-length returns)
+    (tie.spec put-id-requires (λ c. search needs) then-text-requires (λ c. search needs) returns)

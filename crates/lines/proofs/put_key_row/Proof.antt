@@ -14,17 +14,11 @@ put-hex-key-requires c κs = (
       (c .before .before .pre .1),
 )
 
-slice-aggregate-then-text : tie.Need-slice-aggregate-then-text
-slice-aggregate-then-text c = search needs
-
 then-text-requires : tie.Need-then-text-requires
 then-text-requires c κs =
     let at-put-hex-key = c .before .before .before .before in
     let at-pre = at-put-hex-key .before .before .before in
     last-room (first (at-put-hex-key .put-hex-key .ensures) (key-text _) (at-pre .pre .1))
-
-same-length : tie.Need-same-length
-same-length c = search needs
 
 returns : tie.Need-returns
 returns c =
@@ -38,7 +32,7 @@ put-key-row-spec =
     tie.close
     (tie.spec
     put-hex-key-requires
-    slice-aggregate-then-text
+    (λ c. search needs)
     then-text-requires
-    same-length
+    (λ c. search needs)
     returns)

@@ -8,9 +8,6 @@ use borrow.Author.Needs.{needs}
 use Rattle.lines.proofs.put_message_head.Statement.{statement}
 use Rattle.lines.proofs.put_message_head.Tie as tie
 
-slice-aggregate-put-text : tie.Need-slice-aggregate-put-text
-slice-aggregate-put-text c = search needs
-
 put-text-requires : tie.Need-put-text-requires
 put-text-requires c κs =
     let at-start = c .before .before .before in
@@ -21,9 +18,6 @@ then-id-requires c κs =
     let at-put-text = c .before .before .before in
     let at-pre = at-put-text .before .before .before .before in
     (at-pre .pre .0, room (idText _) _ (first (at-put-text .put-text .ensures) (head-text _ _) (at-pre .pre .1)))
-
-slice-aggregate-then-text : tie.Need-slice-aggregate-then-text
-slice-aggregate-then-text c = search needs
 
 then-text-requires : tie.Need-then-text-requires
 then-text-requires c κs =
@@ -44,9 +38,6 @@ then-counters-requires c κs =
           (next (at-then-id .then-id .ensures) _ (first (at-put-text .put-text .ensures) (head-text _ _) (at-pre .pre .1)))),
     )
 
-slice-aggregate-then-text-2 : tie.Need-slice-aggregate-then-text-2
-slice-aggregate-then-text-2 c = search needs
-
 then-text-requires-2 : tie.Need-then-text-requires-2
 then-text-requires-2 c κs =
     let at-then-counters = c .before .before .before .before in
@@ -57,9 +48,6 @@ then-text-requires-2 c κs =
     last-room (next (at-then-counters .then-counters .ensures) _
     (next (at-then-text .then-text .ensures) _
     (next (at-then-id .then-id .ensures) _ (first (at-put-text .put-text .ensures) (head-text _ _) (at-pre .pre .1)))))
-
-same-length : tie.Need-same-length
-same-length c = search needs
 
 returns : tie.Need-returns
 returns c =
@@ -78,13 +66,13 @@ pub put-message-head-spec : {M : Type 1} → statement M
 put-message-head-spec =
     tie.close
     (tie.spec
-    slice-aggregate-put-text
+    (λ c. search needs)
     put-text-requires
     then-id-requires
-    slice-aggregate-then-text
+    (λ c. search needs)
     then-text-requires
     then-counters-requires
-    slice-aggregate-then-text-2
+    (λ c. search needs)
     then-text-requires-2
-    same-length
+    (λ c. search needs)
     returns)

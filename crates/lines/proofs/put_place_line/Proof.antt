@@ -9,9 +9,6 @@ use borrow.Author.Needs.{needs}
 use Rattle.lines.proofs.put_place_line.Statement.{statement}
 use Rattle.lines.proofs.put_place_line.Tie as tie
 
-slice-aggregate-put-text : tie.Need-slice-aggregate-put-text
-slice-aggregate-put-text c = search needs
-
 put-text-requires : tie.Need-put-text-requires
 put-text-requires c κs =
     let at-start = c .before .before .before in
@@ -35,9 +32,6 @@ then-spot-requires c κs =
           (first (at-put-text .put-text .ensures) (place-text _ _ _ _) (at-pre .pre .2))),
     )
 
-slice-aggregate-then-text : tie.Need-slice-aggregate-then-text
-slice-aggregate-then-text c = search needs
-
 then-text-requires : tie.Need-then-text-requires
 then-text-requires c κs =
     let at-then-spot = c .before .before .before .before in
@@ -47,9 +41,6 @@ then-text-requires c κs =
     last-room (next (at-then-spot .then-spot .ensures) _
     (next (at-then-decimal .then-decimal .ensures) _
     (first (at-put-text .put-text .ensures) (place-text _ _ _ _) (at-pre .pre .2))))
-
-same-length : tie.Need-same-length
-same-length c = search needs
 
 returns : tie.Need-returns
 returns c =
@@ -66,11 +57,11 @@ pub put-place-line-spec : {M : Type 1} → statement M
 put-place-line-spec =
     tie.close
     (tie.spec
-    slice-aggregate-put-text
+    (λ c. search needs)
     put-text-requires
     then-decimal-requires
     then-spot-requires
-    slice-aggregate-then-text
+    (λ c. search needs)
     then-text-requires
-    same-length
+    (λ c. search needs)
     returns)

@@ -8,9 +8,6 @@ use borrow.Author.Needs.{needs}
 use Rattle.lines.proofs.put_seen_line.Statement.{statement}
 use Rattle.lines.proofs.put_seen_line.Tie as tie
 
-slice-aggregate-put-text : tie.Need-slice-aggregate-put-text
-slice-aggregate-put-text c = search needs
-
 put-text-requires : tie.Need-put-text-requires
 put-text-requires c κs =
     let at-start = c .before .before .before in
@@ -22,9 +19,6 @@ then-counters-requires c κs =
     let at-pre = at-put-text .before .before .before .before in
     (at-pre .pre .0, room (countersText _) _ (first (at-put-text .put-text .ensures) (seen-text _) (at-pre .pre .1)))
 
-slice-aggregate-then-text : tie.Need-slice-aggregate-then-text
-slice-aggregate-then-text c = search needs
-
 then-text-requires : tie.Need-then-text-requires
 then-text-requires c κs =
     let at-then-counters = c .before .before .before .before in
@@ -32,9 +26,6 @@ then-text-requires c κs =
     let at-pre = at-put-text .before .before .before .before in
     last-room (next (at-then-counters .then-counters .ensures) _
     (first (at-put-text .put-text .ensures) (seen-text _) (at-pre .pre .1)))
-
-same-length : tie.Need-same-length
-same-length c = search needs
 
 returns : tie.Need-returns
 returns c =
@@ -49,10 +40,10 @@ pub put-seen-line-spec : {M : Type 1} → statement M
 put-seen-line-spec =
     tie.close
     (tie.spec
-    slice-aggregate-put-text
+    (λ c. search needs)
     put-text-requires
     then-counters-requires
-    slice-aggregate-then-text
+    (λ c. search needs)
     then-text-requires
-    same-length
+    (λ c. search needs)
     returns)

@@ -9,15 +9,6 @@ use borrow.Author.Needs.{needs}
 use Rattle.lines.proofs.put_spot.Statement.{statement}
 use Rattle.lines.proofs.put_spot.Tie as tie
 
-enum-known-spot : tie.Need-enum-known-spot
-enum-known-spot c = search needs
-
-flag-requires : tie.Need-flag-requires
-flag-requires c κs = search needs
-
-slice-aggregate-put-text : tie.Need-slice-aggregate-put-text
-slice-aggregate-put-text c = search needs
-
 put-text-requires : tie.Need-put-text-requires
 put-text-requires c κs =
     let at-flag = c .before .before in
@@ -25,9 +16,6 @@ put-text-requires c κs =
     let at-start = at-spot .before .before .before in
     first-room (byte "{" ∷ _ ∷ []) _ (at-start .args .buf .now) (key-spot (at-flag .flag .ensures) (at-spot .spot .given .1))
     (at-start .pre .2)
-
-slice-aggregate-then-hex : tie.Need-slice-aggregate-then-hex
-slice-aggregate-then-hex c = search needs
 
 then-hex-requires : tie.Need-then-hex-requires
 then-hex-requires c κs =
@@ -39,15 +27,6 @@ then-hex-requires c κs =
       last-room
           (first (at-put-text .put-text .ensures) (key-spot (at-flag .flag .ensures) (at-spot .spot .given .1)) (at-pre .pre .2)),
     )
-
-enum-known-spot-2 : tie.Need-enum-known-spot-2
-enum-known-spot-2 c = search needs
-
-flag-requires-2 : tie.Need-flag-requires-2
-flag-requires-2 c κs = search needs
-
-slice-aggregate-put-text-2 : tie.Need-slice-aggregate-put-text-2
-slice-aggregate-put-text-2 c = search needs
 
 put-text-requires-2 : tie.Need-put-text-requires-2
 put-text-requires-2 c κs =
@@ -68,9 +47,6 @@ then-id-requires c κs =
           (element-spot (at-flag2 .flag2 .ensures) (at-spot2 .spot2 .given .1)) (at-pre .pre .2)),
     )
 
-same-length : tie.Need-same-length
-same-length c = search needs
-
 returns : tie.Need-returns
 returns c =
     let at-then-hex = c .before .before in
@@ -80,9 +56,6 @@ returns c =
     let at-pre = at-spot .before .before .before in
     last (at-then-hex .then-hex .ensures) (first (at-put-text .put-text .ensures)
     (key-spot (at-flag .flag .ensures) (at-spot .spot .given .1)) (at-pre .pre .2))
-
-same-length-2 : tie.Need-same-length-2
-same-length-2 c = search needs
 
 returns-2 : tie.Need-returns-2
 returns-2 c =
@@ -98,18 +71,18 @@ pub put-spot-spec : {M : Type 1} → statement M
 put-spot-spec =
     tie.close
     (tie.spec
-    enum-known-spot
-    flag-requires
-    slice-aggregate-put-text
+    (λ c. search needs)
+    (λ c κs. search needs)
+    (λ c. search needs)
     put-text-requires
-    slice-aggregate-then-hex
+    (λ c. search needs)
     then-hex-requires
-    enum-known-spot-2
-    flag-requires-2
-    slice-aggregate-put-text-2
+    (λ c. search needs)
+    (λ c κs. search needs)
+    (λ c. search needs)
     put-text-requires-2
     then-id-requires
-    same-length
+    (λ c. search needs)
     returns
-    same-length-2
+    (λ c. search needs)
     returns-2)

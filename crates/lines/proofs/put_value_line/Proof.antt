@@ -7,9 +7,6 @@ use borrow.Author.Needs.{needs}
 use Rattle.lines.proofs.put_value_line.Statement.{statement}
 use Rattle.lines.proofs.put_value_line.Tie as tie
 
-slice-aggregate-put-text : tie.Need-slice-aggregate-put-text
-slice-aggregate-put-text c = search needs
-
 put-text-requires : tie.Need-put-text-requires
 put-text-requires c κs =
     let at-start = c .before .before .before in
@@ -20,9 +17,6 @@ then-value-row-requires c κs =
     let at-put-text = c .before .before .before in
     let at-pre = at-put-text .before .before .before .before in
     (at-pre .pre .0, at-pre .pre .1, last-room (first (at-put-text .put-text .ensures) (value-line-text _) (at-pre .pre .2)))
-
-same-length : tie.Need-same-length
-same-length c = search needs
 
 returns : tie.Need-returns
 returns c =
@@ -35,8 +29,8 @@ pub put-value-line-spec : {M : Type 1} → statement M
 put-value-line-spec =
     tie.close
     (tie.spec
-    slice-aggregate-put-text
+    (λ c. search needs)
     put-text-requires
     then-value-row-requires
-    same-length
+    (λ c. search needs)
     returns)

@@ -15,9 +15,6 @@ put-id-requires c κs = (
       (c .before .before .pre .2),
 )
 
-slice-aggregate-then-text : tie.Need-slice-aggregate-then-text
-slice-aggregate-then-text c = search needs
-
 then-text-requires : tie.Need-then-text-requires
 then-text-requires c κs =
     let at-put-id = c .before .before .before .before in
@@ -35,9 +32,6 @@ then-plain-requires c κs =
           (next (at-then-text .then-text .ensures) _ (first (at-put-id .put-id .ensures) (value-text _) (at-pre .pre .2))),
     )
 
-slice-aggregate-then-text-2 : tie.Need-slice-aggregate-then-text-2
-slice-aggregate-then-text-2 c = search needs
-
 then-text-requires-2 : tie.Need-then-text-requires-2
 then-text-requires-2 c κs =
     let at-then-plain = c .before .before .before .before in
@@ -46,9 +40,6 @@ then-text-requires-2 c κs =
     let at-pre = at-put-id .before .before .before in
     last-room (next (at-then-plain .then-plain .ensures) _
     (next (at-then-text .then-text .ensures) _ (first (at-put-id .put-id .ensures) (value-text _) (at-pre .pre .2))))
-
-same-length : tie.Need-same-length
-same-length c = search needs
 
 returns : tie.Need-returns
 returns c =
@@ -66,10 +57,10 @@ put-value-row-spec =
     tie.close
     (tie.spec
     put-id-requires
-    slice-aggregate-then-text
+    (λ c. search needs)
     then-text-requires
     then-plain-requires
-    slice-aggregate-then-text-2
+    (λ c. search needs)
     then-text-requires-2
-    same-length
+    (λ c. search needs)
     returns)

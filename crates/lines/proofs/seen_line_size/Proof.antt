@@ -8,14 +8,8 @@ use borrow.Author.Needs.{needs}
 use Rattle.lines.proofs.seen_line_size.Statement.{statement}
 use Rattle.lines.proofs.seen_line_size.Tie as tie
 
-counters-size-requires : tie.Need-counters-size-requires
-counters-size-requires c κs = search needs
-
-add-result : tie.Need-add-result
-add-result c = search needs
-
 returns : tie.Need-returns
 returns c = sized _ (seen-text _) (simp length-append (omega (arith, c .counters-size .ensures))) (omega (arith, c .counters-size .ensures))
 
 pub seen-line-size-spec : {M : Type 1} → statement M
-seen-line-size-spec = tie.close (tie.spec counters-size-requires add-result returns)
+seen-line-size-spec = tie.close (tie.spec (λ c κs. search needs) (λ c. search needs) returns)

@@ -8,15 +8,9 @@ use borrow.Author.Needs.{needs}
 use Rattle.lines.proofs.value_line_size.Statement.{statement}
 use Rattle.lines.proofs.value_line_size.Tie as tie
 
-value-row-size-requires : tie.Need-value-row-size-requires
-value-row-size-requires c κs = search needs
-
-add-result : tie.Need-add-result
-add-result c = search needs
-
 returns : tie.Need-returns
 returns c = sized _ (value-line-text _) (simp length-append (omega (arith, c .value-row-size .ensures)))
     (omega (arith, c .value-row-size .ensures))
 
 pub value-line-size-spec : {M : Type 1} → statement M
-value-line-size-spec = tie.close (tie.spec value-row-size-requires add-result returns)
+value-line-size-spec = tie.close (tie.spec (λ c κs. search needs) (λ c. search needs) returns)

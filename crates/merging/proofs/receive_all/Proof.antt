@@ -6,10 +6,6 @@ use Rattle.tables.specs.Holding.{four}
 use Rattle.merging.proofs.Running.{Turning, turning-none, turning-on, turning-ends}
 use Rattle.merging.proofs.receive_all.Statement.{statement}
 use Rattle.merging.proofs.receive_all.Tie as tie
-use Rattle.merging.proofs.receive_all.Reads as reads
-use Rattle.merging.proofs.receive_all.Lts as lts
-use Rattle.feed.proofs.take_in.Reads as take-in-reads
-use Rattle.merging.proofs.read_on.Reads as read-on-reads
 
 abbrev Inv-loop : tie.InvT-loop
 Inv-loop heads₀ keys₀ marks₀ values₀ waiting₀ buf₀ state₀ cut₀ ok₀ turns₀ heads keys marks values waiting buf state cut ok turns =
@@ -20,9 +16,6 @@ Inv-loop heads₀ keys₀ marks₀ values₀ waiting₀ buf₀ state₀ cut₀ o
 abbrev μ-loop : tie.MeasureT-loop
 μ-loop heads₀ keys₀ marks₀ values₀ waiting₀ buf₀ state₀ cut₀ ok₀ turns₀ heads keys marks values waiting buf state cut ok turns =
     turns
-
-loop-holds : tie.Need-loop-holds Inv-loop μ-loop
-loop-holds c = ((refl, refl, refl, refl, refl, refl), turning-none _ _ _ _ _)
 
 read-on-requires : tie.Need-read-on-requires Inv-loop μ-loop
 read-on-requires c κs =
@@ -91,34 +84,13 @@ loop-again-2 c =
           (at-take-in .take-in .ensures) (c .if1 .left) _,
     )
 
-same-length : tie.Need-same-length Inv-loop μ-loop
-same-length c = c .before .loop .inv .0 .0
-
-same-length-2 : tie.Need-same-length-2 Inv-loop μ-loop
-same-length-2 c = c .before .loop .inv .0 .1
-
-same-length-3 : tie.Need-same-length-3 Inv-loop μ-loop
-same-length-3 c = c .before .loop .inv .0 .2
-
-same-length-4 : tie.Need-same-length-4 Inv-loop μ-loop
-same-length-4 c = c .before .loop .inv .0 .3
-
-same-length-5 : tie.Need-same-length-5 Inv-loop μ-loop
-same-length-5 c = c .before .loop .inv .0 .4
-
-same-length-6 : tie.Need-same-length-6 Inv-loop μ-loop
-same-length-6 c = c .before .loop .inv .0 .5
-
-returns : tie.Need-returns Inv-loop μ-loop
-returns c = c .before .loop .inv .1 .took
-
 pub receive-all-spec : {M : Type 1} → statement M
 receive-all-spec =
     tie.close
     (tie.spec
     Inv-loop
     μ-loop
-    loop-holds
+    (λ c. ((refl, refl, refl, refl, refl, refl), turning-none _ _ _ _ _))
     read-on-requires
     take-in-requires
     loop-less
@@ -126,10 +98,10 @@ receive-all-spec =
     sub-turns
     loop-less-2
     loop-again-2
-    same-length
-    same-length-2
-    same-length-3
-    same-length-4
-    same-length-5
-    same-length-6
-    returns)
+    (λ c. c .before .loop .inv .0 .0)
+    (λ c. c .before .loop .inv .0 .1)
+    (λ c. c .before .loop .inv .0 .2)
+    (λ c. c .before .loop .inv .0 .3)
+    (λ c. c .before .loop .inv .0 .4)
+    (λ c. c .before .loop .inv .0 .5)
+    (λ c. c .before .loop .inv .1 .took))

@@ -8,21 +8,6 @@ use borrow.Author.Needs.{needs}
 use Rattle.message.proofs.take_head.Statement.{statement}
 use Rattle.message.proofs.take_head.Tie as tie
 
-slice-aggregate-take-text : tie.Need-slice-aggregate-take-text
-slice-aggregate-take-text c = search needs
-
-take-text-requires : tie.Need-take-text-requires
-take-text-requires c κs = tt
-
-enum-known-n : tie.Need-enum-known-n
-enum-known-n c = search needs
-
-enum-told : tie.Need-enum-told
-enum-told c = search needs
-
-no-head-requires : tie.Need-no-head-requires
-no-head-requires c κs = tt
-
 returns : tie.Need-returns
 returns c =
     let at-take-text = c .before .before .before in
@@ -34,15 +19,6 @@ take-id-requires c κs =
     let at-pre = c .before .before .before .before .before .before in
     at-pre .pre
 
-enum-known-id : tie.Need-enum-known-id
-enum-known-id c = search needs
-
-enum-told-2 : tie.Need-enum-told-2
-enum-told-2 c = search needs
-
-no-head-requires-2 : tie.Need-no-head-requires-2
-no-head-requires-2 c κs = tt
-
 returns-2 : tie.Need-returns-2
 returns-2 c =
     let at-take-id = c .before .before .before in
@@ -51,21 +27,6 @@ returns-2 c =
     no-head _ (c .no-head2 .result) (c .no-head2 .ensures)
     (no-id _ _ (text-took _ (at-n .n .given .1) (at-take-text .take-text .ensures))
     (id-none _ (c .before .enum-told2 .given .1) (at-take-id .take-id .ensures)))
-
-slice-aggregate-take-text-2 : tie.Need-slice-aggregate-take-text-2
-slice-aggregate-take-text-2 c = search needs
-
-take-text-requires-2 : tie.Need-take-text-requires-2
-take-text-requires-2 c κs = tt
-
-enum-known-o : tie.Need-enum-known-o
-enum-known-o c = search needs
-
-enum-told-3 : tie.Need-enum-told-3
-enum-told-3 c = search needs
-
-no-head-requires-3 : tie.Need-no-head-requires-3
-no-head-requires-3 c κs = tt
 
 returns-3 : tie.Need-returns-3
 returns-3 c =
@@ -85,9 +46,6 @@ take-counters-requires c κs =
     .before .before .before .before .before .before .before .before .before in
     at-pre .pre
 
-no-head-requires-4 : tie.Need-no-head-requires-4
-no-head-requires-4 c κs = tt
-
 returns-4 : tie.Need-returns-4
 returns-4 c =
     let at-take-counters = c .before .before .before in
@@ -103,18 +61,6 @@ returns-4 c =
     (text-took _ (at-o .o .given .1) (at-take-text2 .take-text2 .ensures))
     (counters-none _ _ (at-take-counters .take-counters .result) (not-true _ (c .before .if1 .taken))
     (at-take-counters .take-counters .ensures)))
-
-take-byte-requires : tie.Need-take-byte-requires
-take-byte-requires c κs = tt
-
-enum-known-next : tie.Need-enum-known-next
-enum-known-next c = search needs
-
-enum-told-4 : tie.Need-enum-told-4
-enum-told-4 c = search needs
-
-no-head-requires-5 : tie.Need-no-head-requires-5
-no-head-requires-5 c κs = tt
 
 returns-5 : tie.Need-returns-5
 returns-5 c =
@@ -156,29 +102,29 @@ pub take-head-spec : {M : Type 1} → statement M
 take-head-spec =
     tie.close
     (tie.spec
-    slice-aggregate-take-text
-    take-text-requires
-    enum-known-n
-    enum-told
-    no-head-requires
+    (λ c. search needs)
+    (λ c κs. tt)
+    (λ c. search needs)
+    (λ c. search needs)
+    (λ c κs. tt)
     returns
     take-id-requires
-    enum-known-id
-    enum-told-2
-    no-head-requires-2
+    (λ c. search needs)
+    (λ c. search needs)
+    (λ c κs. tt)
     returns-2
-    slice-aggregate-take-text-2
-    take-text-requires-2
-    enum-known-o
-    enum-told-3
-    no-head-requires-3
+    (λ c. search needs)
+    (λ c κs. tt)
+    (λ c. search needs)
+    (λ c. search needs)
+    (λ c κs. tt)
     returns-3
     take-counters-requires
-    no-head-requires-4
+    (λ c κs. tt)
     returns-4
-    take-byte-requires
-    enum-known-next
-    enum-told-4
-    no-head-requires-5
+    (λ c κs. tt)
+    (λ c. search needs)
+    (λ c. search needs)
+    (λ c κs. tt)
     returns-5
     returns-6)

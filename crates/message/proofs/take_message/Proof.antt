@@ -6,15 +6,6 @@ use Rattle.message.proofs.Messages.{no-message, a-message}
 use Rattle.message.proofs.take_message.Statement.{statement}
 use Rattle.message.proofs.take_message.Tie as tie
 
-powers-requires : tie.Need-powers-requires
-powers-requires c κs = tt
-
-take-head-requires : tie.Need-take-head-requires
-take-head-requires c κs = c .before .powers .ensures
-
-no-edit-requires : tie.Need-no-edit-requires
-no-edit-requires c κs = tt
-
 returns : tie.Need-returns
 returns c =
     let at-if1 = c .before .before .before in
@@ -38,9 +29,9 @@ pub take-message-spec : {M : Type 1} → statement M
 take-message-spec =
     tie.close
     (tie.spec
-    powers-requires
-    take-head-requires
-    no-edit-requires
+    (λ c κs. tt)
+    (λ c κs. c .before .powers .ensures)
+    (λ c κs. tt)
     returns
     edit-at-requires
     returns-2)

@@ -6,12 +6,6 @@ use borrow.Author.Needs.{needs}
 use Rattle.operate.proofs.apply.Statement.{statement}
 use Rattle.operate.proofs.apply.Tie as tie
 
-forestall-requires : tie.Need-forestall-requires
-forestall-requires c κs = search needs
-
-is-taken-requires : tie.Need-is-taken-requires
-is-taken-requires c κs = search needs
-
 returns : tie.Need-returns
 returns c =
     let at-is-taken = c .before in
@@ -20,27 +14,6 @@ returns c =
     let no = sym (at-is-taken .is-taken .ensures) ∙ not-true _ (c .if1 .taken) in
     applies-refused _ _ _ (at-start .args .op) _
     (judges-stopped _ _ _ (at-start .args .op) _ (at-forestall .forestall .ensures) no) no
-
-top-of-requires : tie.Need-top-of-requires
-top-of-requires c κs = search needs
-
-judge-ready-requires : tie.Need-judge-ready-requires
-judge-ready-requires c κs = search needs
-
-is-taken-requires-2 : tie.Need-is-taken-requires-2
-is-taken-requires-2 c κs = search needs
-
-same-length : tie.Need-same-length
-same-length c = search needs
-
-same-length-2 : tie.Need-same-length-2
-same-length-2 c = search needs
-
-same-length-3 : tie.Need-same-length-3
-same-length-3 c = search needs
-
-same-length-4 : tie.Need-same-length-4
-same-length-4 c = search needs
 
 returns-2 : tie.Need-returns-2
 returns-2 c =
@@ -54,24 +27,6 @@ returns-2 c =
     (judges-ready _ _ _ (at-start .args .op) _ (at-forestall .forestall .ensures) _ _
     (sym (at-is-taken .is-taken .ensures) ∙ not-false _ (at-if1 .if1 .left)) (at-top-of .top-of .ensures _ _ _ refl)
     (at-judge-ready .judge-ready .ensures)) (sym (c .before .is-taken2 .ensures) ∙ not-true _ (c .if2 .taken))
-
-carry-out-requires : tie.Need-carry-out-requires
-carry-out-requires c κs = search needs
-
-raise-requires : tie.Need-raise-requires
-raise-requires c κs = search needs
-
-same-length-5 : tie.Need-same-length-5
-same-length-5 c = search needs
-
-same-length-6 : tie.Need-same-length-6
-same-length-6 c = search needs
-
-same-length-7 : tie.Need-same-length-7
-same-length-7 c = search needs
-
-same-length-8 : tie.Need-same-length-8
-same-length-8 c = search needs
 
 returns-3 : tie.Need-returns-3
 returns-3 c =
@@ -95,21 +50,21 @@ pub apply-spec : {M : Type 1} → statement M
 apply-spec =
     tie.close
     (tie.spec
-    forestall-requires
-    is-taken-requires
+    (λ c κs. search needs)
+    (λ c κs. search needs)
     returns
-    top-of-requires
-    judge-ready-requires
-    is-taken-requires-2
-    same-length
-    same-length-2
-    same-length-3
-    same-length-4
+    (λ c κs. search needs)
+    (λ c κs. search needs)
+    (λ c κs. search needs)
+    (λ c. search needs)
+    (λ c. search needs)
+    (λ c. search needs)
+    (λ c. search needs)
     returns-2
-    carry-out-requires
-    raise-requires
-    same-length-5
-    same-length-6
-    same-length-7
-    same-length-8
+    (λ c κs. search needs)
+    (λ c κs. search needs)
+    (λ c. search needs)
+    (λ c. search needs)
+    (λ c. search needs)
+    (λ c. search needs)
     returns-3)

@@ -4,17 +4,11 @@ use Rattle.operate.proofs.Carrying.{forestalls-two, forestalls-three, f
 use Rattle.operate.proofs.forestall.Statement.{statement}
 use Rattle.operate.proofs.forestall.Tie as tie
 
-not-above-requires : tie.Need-not-above-requires
-not-above-requires c κs = search needs
-
 returns : tie.Need-returns
 returns c =
     let at-not-above = c .before in
     let at-start = at-not-above .before .before in
     forestalls-two _ (at-start .args .op) _ (at-not-above .not-above .ensures) (c .if1 .taken)
-
-repeated-requires : tie.Need-repeated-requires
-repeated-requires c κs = search needs
 
 returns-2 : tie.Need-returns-2
 returns-2 c =
@@ -23,9 +17,6 @@ returns-2 c =
     let at-start = at-not-above .before .before in
     forestalls-three _ (at-start .args .op) _ (at-not-above .not-above .ensures) (at-if1 .if1 .left) _
     (c .before .repeated .ensures) (c .if2 .taken)
-
-crossed-requires : tie.Need-crossed-requires
-crossed-requires c κs = search needs
 
 returns-3 : tie.Need-returns-3
 returns-3 c =
@@ -36,9 +27,6 @@ returns-3 c =
     let at-start = at-not-above .before .before in
     forestalls-four _ (at-start .args .op) _ (at-not-above .not-above .ensures) (at-if1 .if1 .left) _
     (at-repeated .repeated .ensures) (at-if2 .if2 .left) _ (c .before .crossed .ensures) (c .if3 .taken)
-
-ready-requires : tie.Need-ready-requires
-ready-requires c κs = search needs
 
 returns-4 : tie.Need-returns-4
 returns-4 c =
@@ -70,12 +58,12 @@ pub forestall-spec : {M : Type 1} → statement M
 forestall-spec =
     tie.close
     (tie.spec
-    not-above-requires
+    (λ c κs. search needs)
     returns
-    repeated-requires
+    (λ c κs. search needs)
     returns-2
-    crossed-requires
+    (λ c κs. search needs)
     returns-3
-    ready-requires
+    (λ c κs. search needs)
     returns-4
     returns-5)

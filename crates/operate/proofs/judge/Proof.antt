@@ -5,18 +5,6 @@ use borrow.Author.Needs.{needs}
 use Rattle.operate.proofs.judge.Statement.{statement}
 use Rattle.operate.proofs.judge.Tie as tie
 
-forestall-requires : tie.Need-forestall-requires
-forestall-requires c κs = search needs
-
-is-taken-requires : tie.Need-is-taken-requires
-is-taken-requires c κs = search needs
-
-top-of-requires : tie.Need-top-of-requires
-top-of-requires c κs = search needs
-
-judge-ready-requires : tie.Need-judge-ready-requires
-judge-ready-requires c κs = search needs
-
 returns : tie.Need-returns
 returns c =
     let at-top-of = c .before in
@@ -38,9 +26,9 @@ pub judge-spec : {M : Type 1} → statement M
 judge-spec =
     tie.close
     (tie.spec
-    forestall-requires
-    is-taken-requires
-    top-of-requires
-    judge-ready-requires
+    (λ c κs. search needs)
+    (λ c κs. search needs)
+    (λ c κs. search needs)
+    (λ c κs. search needs)
     returns
     returns-2)

@@ -4,16 +4,10 @@ use borrow.Author.Needs.{needs}
 use Rattle.operate.proofs.judge_ready.Statement.{statement}
 use Rattle.operate.proofs.judge_ready.Tie as tie
 
-slice-aggregate-judge-way : tie.Need-slice-aggregate-judge-way
-slice-aggregate-judge-way c = search needs
-
-judge-way-requires : tie.Need-judge-way-requires
-judge-way-requires c κs = search needs
-
 returns : tie.Need-returns
 returns c =
     let at-start = c .before .before .before .before .before .before .before .before .before in
     judge-parts _ _ _ (at-start .args .op) _ (c .judge-way .ensures)
 
 pub judge-ready-spec : {M : Type 1} → statement M
-judge-ready-spec = tie.close (tie.spec slice-aggregate-judge-way judge-way-requires returns)
+judge-ready-spec = tie.close (tie.spec (λ c. search needs) (λ c κs. search needs) returns)

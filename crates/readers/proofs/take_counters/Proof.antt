@@ -17,15 +17,6 @@ Inv-loop s a t v₀ first m n₀ i₀ v n i = State s a i n v
 abbrev μ-loop : tie.MeasureT-loop
 μ-loop s a t v₀ first m n₀ i₀ v n i = 8 - i
 
-take-decimal-requires : tie.Need-take-decimal-requires Inv-loop μ-loop
-take-decimal-requires c κs = search needs
-
-enum-known-first : tie.Need-enum-known-first Inv-loop μ-loop
-enum-known-first c = search needs
-
-enum-told : tie.Need-enum-told Inv-loop μ-loop
-enum-told c = search needs
-
 returns : tie.Need-returns Inv-loop μ-loop
 returns c = none _ _ (number-none _ (c .enum-told .given .1) (c .before .before .take-decimal .ensures))
 
@@ -34,22 +25,10 @@ cast-v c =
     let at-take-decimal = c .before .before .before in
     omega (arith, number-took _ (c .before .first .given .1) (at-take-decimal .take-decimal .ensures) .valid)
 
-array-write-v : tie.Need-array-write-v Inv-loop μ-loop
-array-write-v c = search needs
-
 loop-holds : tie.Need-loop-holds Inv-loop μ-loop
 loop-holds c =
     let at-take-decimal = c .before .before .before in
     start _ _ _ _ (replicate 8 0) refl (number-took _ (c .before .first .given .1) (at-take-decimal .take-decimal .ensures))
-
-take-comma-requires : tie.Need-take-comma-requires Inv-loop μ-loop
-take-comma-requires c κs = search needs
-
-enum-known-x : tie.Need-enum-known-x Inv-loop μ-loop
-enum-known-x c = search needs
-
-enum-told-2 : tie.Need-enum-told-2 Inv-loop μ-loop
-enum-told-2 c = search needs
 
 returns-2 : tie.Need-returns-2 Inv-loop μ-loop
 returns-2 c =
@@ -64,18 +43,6 @@ cast-v-2 c =
     let at-take-comma = c .before .before .before in
     omega (arith, number-took _ (c .before .x .given .1) (at-take-comma .take-comma .ensures) .valid)
 
-mul-v : tie.Need-mul-v Inv-loop μ-loop
-mul-v c = search needs
-
-array-write-v-2 : tie.Need-array-write-v-2 Inv-loop μ-loop
-array-write-v-2 c = search needs
-
-add-i : tie.Need-add-i Inv-loop μ-loop
-add-i c = search needs
-
-loop-less : tie.Need-loop-less Inv-loop μ-loop
-loop-less c = search needs
-
 loop-again : tie.Need-loop-again Inv-loop μ-loop
 loop-again c =
     let at-take-comma = c .before .before .before in
@@ -84,30 +51,27 @@ loop-again c =
     step _ _ _ _ _ (at-loop .loop .inv) (at-loop-test .loop-test .taken) _ _
     (number-took _ (c .before .x .given .1) (at-take-comma .take-comma .ensures))
 
-returns-3 : tie.Need-returns-3 Inv-loop μ-loop
-returns-3 c = done _ _ _ _ _ (c .before .loop .inv) (c .loop-test .left)
-
 pub take-counters-spec : {M : Type 1} → statement M
 take-counters-spec =
     tie.close
     (tie.spec
     Inv-loop
     μ-loop
-    take-decimal-requires
-    enum-known-first
-    enum-told
+    (λ c κs. search needs)
+    (λ c. search needs)
+    (λ c. search needs)
     returns
     cast-v
-    array-write-v
+    (λ c. search needs)
     loop-holds
-    take-comma-requires
-    enum-known-x
-    enum-told-2
+    (λ c κs. search needs)
+    (λ c. search needs)
+    (λ c. search needs)
     returns-2
     cast-v-2
-    mul-v
-    array-write-v-2
-    add-i
-    loop-less
+    (λ c. search needs)
+    (λ c. search needs)
+    (λ c. search needs)
+    (λ c. search needs)
     loop-again
-    returns-3)
+    (λ c. done _ _ _ _ _ (c .before .loop .inv) (c .loop-test .left)))

@@ -8,26 +8,8 @@ use borrow.Author.Needs.{needs}
 use Rattle.readers.proofs.take_id.Statement.{statement}
 use Rattle.readers.proofs.take_id.Tie as tie
 
-take-between-requires : tie.Need-take-between-requires
-take-between-requires c κs = search needs
-
-enum-known-c : tie.Need-enum-known-c
-enum-known-c c = search needs
-
-enum-told : tie.Need-enum-told
-enum-told c = search needs
-
 returns : tie.Need-returns
 returns c = no-counter _ _ (number-none _ (c .enum-told .given .1) (c .before .before .take-between .ensures))
-
-take-byte-requires : tie.Need-take-byte-requires
-take-byte-requires c κs = search needs
-
-enum-known-m : tie.Need-enum-known-m
-enum-known-m c = search needs
-
-enum-told-2 : tie.Need-enum-told-2
-enum-told-2 c = search needs
 
 returns-2 : tie.Need-returns-2
 returns-2 c =
@@ -36,15 +18,6 @@ returns-2 c =
     let at-take-between = at-c .before .before in
     no-point _ _ _ _ (number-took _ (at-c .c .given .1) (at-take-between .take-between .ensures))
     (text-none _ (c .enum-told2 .given .1) (at-take-byte .take-byte .ensures))
-
-take-between-requires-2 : tie.Need-take-between-requires-2
-take-between-requires-2 c κs = search needs
-
-enum-known-r : tie.Need-enum-known-r
-enum-known-r c = search needs
-
-enum-told-3 : tie.Need-enum-told-3
-enum-told-3 c = search needs
 
 returns-3 : tie.Need-returns-3
 returns-3 c =
@@ -95,17 +68,17 @@ pub take-id-spec : {M : Type 1} → statement M
 take-id-spec =
     tie.close
     (tie.spec
-    take-between-requires
-    enum-known-c
-    enum-told
+    (λ c κs. search needs)
+    (λ c. search needs)
+    (λ c. search needs)
     returns
-    take-byte-requires
-    enum-known-m
-    enum-told-2
+    (λ c κs. search needs)
+    (λ c. search needs)
+    (λ c. search needs)
     returns-2
-    take-between-requires-2
-    enum-known-r
-    enum-told-3
+    (λ c κs. search needs)
+    (λ c. search needs)
+    (λ c. search needs)
     returns-3
     mul-t12
     sub-t13

@@ -8,12 +8,6 @@ use borrow.Author.Needs.{needs}
 use Rattle.script.proofs.block.Statement.{statement}
 use Rattle.script.proofs.block.Tie as tie
 
-first-line-requires : tie.Need-first-line-requires
-first-line-requires c κs = search needs
-
-no-call-requires : tie.Need-no-call-requires
-no-call-requires c κs = search needs
-
 returns : tie.Need-returns
 returns c =
     let line = c .before .before .before in
@@ -28,18 +22,6 @@ add-to c =
     let k = line-took (start .args .name .now) (start .args .s .now) (start .args .a)
     (line .first-line .result) (not-false _ (c .before .if1 .left)) (line .first-line .ensures) in
     omega (arith, line-within (start .args .name .now) (start .args .s .now) (start .args .a) _ _ k, start .good .0 .1)
-
-take-byte-requires : tie.Need-take-byte-requires
-take-byte-requires c κs = search needs
-
-enum-known-next : tie.Need-enum-known-next
-enum-known-next c = search needs
-
-enum-told : tie.Need-enum-told
-enum-told c = search needs
-
-no-call-requires-2 : tie.Need-no-call-requires-2
-no-call-requires-2 c κs = search needs
 
 returns-2 : tie.Need-returns-2
 returns-2 c =
@@ -67,13 +49,13 @@ pub block-spec : {M : Type 1} → statement M
 block-spec =
     tie.close
     (tie.spec
-    first-line-requires
-    no-call-requires
+    (λ c κs. search needs)
+    (λ c κs. search needs)
     returns
     add-to
-    take-byte-requires
-    enum-known-next
-    enum-told
-    no-call-requires-2
+    (λ c κs. search needs)
+    (λ c. search needs)
+    (λ c. search needs)
+    (λ c κs. search needs)
     returns-2
     returns-3)

@@ -7,39 +7,12 @@ use borrow.Author.Needs.{needs}
 use Rattle.script.proofs.first_line.Statement.{statement}
 use Rattle.script.proofs.first_line.Tie as tie
 
-powers-requires : tie.Need-powers-requires
-powers-requires c κs = search needs
-
-take-text-requires : tie.Need-take-text-requires
-take-text-requires c κs = search needs
-
-enum-known-n : tie.Need-enum-known-n
-enum-known-n c = search needs
-
-enum-told : tie.Need-enum-told
-enum-told c = search needs
-
-not-asked-requires : tie.Need-not-asked-requires
-not-asked-requires c κs = search needs
-
 returns : tie.Need-returns
 returns c =
     let name = c .before .before .before in
     let start = name .before .before .before .before in
     not-asked (start .args .name .now) _ _ (c .not-asked .result) (c .not-asked .ensures)
     (no-name _ _ _ (text-none _ (c .before .enum-told .given .1) (name .take-text .ensures)))
-
-take-decimal-requires : tie.Need-take-decimal-requires
-take-decimal-requires c κs = search needs
-
-enum-known-value : tie.Need-enum-known-value
-enum-known-value c = search needs
-
-enum-told-2 : tie.Need-enum-told-2
-enum-told-2 c = search needs
-
-not-asked-requires-2 : tie.Need-not-asked-requires-2
-not-asked-requires-2 c κs = search needs
 
 returns-2 : tie.Need-returns-2
 returns-2 c =
@@ -50,18 +23,6 @@ returns-2 c =
     not-asked (start .args .name .now) _ _ (c .not-asked2 .result) (c .not-asked2 .ensures)
     (no-number _ _ _ _ (text-took _ (told .n .given .1) (name .take-text .ensures))
     (number-none _ (c .before .enum-told2 .given .1) (number .take-decimal .ensures)))
-
-take-byte-requires : tie.Need-take-byte-requires
-take-byte-requires c κs = search needs
-
-enum-known-next : tie.Need-enum-known-next
-enum-known-next c = search needs
-
-enum-told-3 : tie.Need-enum-told-3
-enum-told-3 c = search needs
-
-not-asked-requires-3 : tie.Need-not-asked-requires-3
-not-asked-requires-3 c κs = search needs
 
 returns-3 : tie.Need-returns-3
 returns-3 c =
@@ -91,20 +52,20 @@ pub first-line-spec : {M : Type 1} → statement M
 first-line-spec =
     tie.close
     (tie.spec
-    powers-requires
-    take-text-requires
-    enum-known-n
-    enum-told
-    not-asked-requires
+    (λ c κs. search needs)
+    (λ c κs. search needs)
+    (λ c. search needs)
+    (λ c. search needs)
+    (λ c κs. search needs)
     returns
-    take-decimal-requires
-    enum-known-value
-    enum-told-2
-    not-asked-requires-2
+    (λ c κs. search needs)
+    (λ c. search needs)
+    (λ c. search needs)
+    (λ c κs. search needs)
     returns-2
-    take-byte-requires
-    enum-known-next
-    enum-told-3
-    not-asked-requires-3
+    (λ c κs. search needs)
+    (λ c. search needs)
+    (λ c. search needs)
+    (λ c κs. search needs)
     returns-3
     returns-4)

@@ -11,12 +11,6 @@ returns c =
     too-many (at-start .args .heads .now) (at-start .args .keys .now) (at-start .args .marks .now) (at-start .args .values .now)
     (at-start .args .c) (at-start .args .seen) (at-start .args .buf .now) (c .if1 .taken)
 
-powers-requires : tie.Need-powers-requires
-powers-requires c κs = search needs
-
-sheet-size-requires : tie.Need-sheet-size-requires
-sheet-size-requires c κs = search needs
-
 returns-2 : tie.Need-returns-2
 returns-2 c =
     let at-start = c .before .before .before .before .before .before .before .before .before .before in
@@ -31,9 +25,6 @@ put-sheet-requires c κs =
     let at-powers = at-sheet-size .before .before in
     let at-if1 = at-powers .before in
     (at-powers .powers .ensures, at-if1 .if1 .left, rw (at-sheet-size .sheet-size .ensures) at (at-if2 .if2 .left))
-
-same-length : tie.Need-same-length
-same-length c = search needs
 
 returns-3 : tie.Need-returns-3
 returns-3 c =
@@ -51,9 +42,9 @@ save-spec =
     tie.close
     (tie.spec
     returns
-    powers-requires
-    sheet-size-requires
+    (λ c κs. search needs)
+    (λ c κs. search needs)
     returns-2
     put-sheet-requires
-    same-length
+    (λ c. search needs)
     returns-3)

@@ -8,19 +8,10 @@ use borrow.Author.Needs.{needs}
 use Rattle.sheet.proofs.sheet_size.Statement.{statement}
 use Rattle.sheet.proofs.sheet_size.Tie as tie
 
-seen-line-size-requires : tie.Need-seen-line-size-requires
-seen-line-size-requires c κs = search needs
-
 rows-size-requires : tie.Need-rows-size-requires
 rows-size-requires c κs =
     let at-pre = c .before .before .before .before .before in
     (at-pre .pre .0, at-pre .pre .1)
-
-end-line-size-requires : tie.Need-end-line-size-requires
-end-line-size-requires c κs = search needs
-
-add-result : tie.Need-add-result
-add-result c = omega (arith, c .before .before .seen-line-size .ensures .most)
 
 add-result-2 : tie.Need-add-result-2
 add-result-2 c =
@@ -59,10 +50,10 @@ pub sheet-size-spec : {M : Type 1} → statement M
 sheet-size-spec =
     tie.close
     (tie.spec
-    seen-line-size-requires
+    (λ c κs. search needs)
     rows-size-requires
-    end-line-size-requires
-    add-result
+    (λ c κs. search needs)
+    (λ c. omega (arith, c .before .before .seen-line-size .ensures .most))
     add-result-2
     add-result-3
     returns)

@@ -23,25 +23,13 @@ returns-4 : tie.Need-returns-4
 unfolding Marks
 returns-4 c k t v A R r G H e u l some low = absurd (omega (arith, G .fits, G .long, c .if4 .taken))
 
-sub-if5 : tie.Need-sub-if5
-sub-if5 c = search needs
-
 returns-5 : tie.Need-returns-5
 unfolding Marks
 returns-5 c k t v A R r G H e u l some low = absurd (omega (arith, G .fits, G .long, c .if5 .taken))
 
-mul-h : tie.Need-mul-h
-mul-h c = search needs
-
-slice-read-h : tie.Need-slice-read-h
-slice-read-h c = search needs
-
 returns-6 : tie.Need-returns-6
 unfolding Marks
 returns-6 c k t v A R r G H e u l some low = absurd (omega (arith, placed _ _ _ A R r H e .small, c .if6 .taken))
-
-marks-of-requires : tie.Need-marks-of-requires
-marks-of-requires c κs = search needs
 
 returns-7 : tie.Need-returns-7
 unfolding Marks
@@ -51,45 +39,6 @@ returns-8 : tie.Need-returns-8
 unfolding Marks
 returns-8 c k t v A R r G H e u l some low = absurd
     (omega (arith, low, placed _ _ _ A R r H e .marks, c .before .before .marks-of .ensures, c .if8 .taken))
-
-rank-requires : tie.Need-rank-requires
-rank-requires c κs = search needs
-
-add-at : tie.Need-add-at
-add-at c = search needs
-
-open-requires : tie.Need-open-requires
-open-requires c κs = search needs
-
-add-marks : tie.Need-add-marks
-add-marks c = search needs
-
-sub-marks : tie.Need-sub-marks
-sub-marks c = search needs
-
-mul-marks : tie.Need-mul-marks
-mul-marks c = search needs
-
-slice-write-marks : tie.Need-slice-write-marks
-slice-write-marks c = search needs
-
-add-heads : tie.Need-add-heads
-add-heads c = search needs
-
-mul-heads : tie.Need-mul-heads
-mul-heads c = search needs
-
-slice-write-heads : tie.Need-slice-write-heads
-slice-write-heads c = search needs
-
-add-t17 : tie.Need-add-t17
-add-t17 c = search needs
-
-same-length : tie.Need-same-length
-same-length c = search needs
-
-same-length-2 : tie.Need-same-length-2
-same-length-2 c = search needs
 
 returns-9 : tie.Need-returns-9
 returns-9 c =
@@ -109,25 +58,25 @@ mark-row-spec =
     returns-2
     returns-3
     returns-4
-    sub-if5
+    (λ c. search needs)
     returns-5
-    mul-h
-    slice-read-h
+    (λ c. search needs)
+    (λ c. search needs)
     returns-6
-    marks-of-requires
+    (λ c κs. search needs)
     returns-7
     returns-8
-    rank-requires
-    add-at
-    open-requires
-    add-marks
-    sub-marks
-    mul-marks
-    slice-write-marks
-    add-heads
-    mul-heads
-    slice-write-heads
-    add-t17
-    same-length
-    same-length-2
+    (λ c κs. search needs)
+    (λ c. search needs)
+    (λ c κs. search needs)
+    (λ c. search needs)
+    (λ c. search needs)
+    (λ c. search needs)
+    (λ c. search needs)
+    (λ c. search needs)
+    (λ c. search needs)
+    (λ c. search needs)
+    (λ c. search needs)
+    (λ c. search needs)
+    (λ c. search needs)
     returns-9)

@@ -27,54 +27,9 @@ returns-5 : tie.Need-returns-5
 unfolding Opens
 returns-5 c m v A R p H x l n g w t = absurd (omega (arith, room _ _ m v _ A R _ H x l .heads, c .if5 .taken))
 
-mul-if6 : tie.Need-mul-if6
-mul-if6 c = search needs
-
-add-if6 : tie.Need-add-if6
-add-if6 c = search needs
-
 returns-6 : tie.Need-returns-6
 unfolding Opens
 returns-6 c m v A R p H x l n g w t = absurd (omega (arith, room _ _ m v _ A R _ H x l .keys, c .if6 .taken))
-
-open-requires : tie.Need-open-requires
-open-requires c κs = search needs
-
-mul-heads : tie.Need-mul-heads
-mul-heads c = search needs
-
-add-heads : tie.Need-add-heads
-add-heads c = search needs
-
-mul-heads-2 : tie.Need-mul-heads-2
-mul-heads-2 c = search needs
-
-slice-write-heads : tie.Need-slice-write-heads
-slice-write-heads c = search needs
-
-mul-open : tie.Need-mul-open
-mul-open c = search needs
-
-mul-open-2 : tie.Need-mul-open-2
-mul-open-2 c = search needs
-
-open-requires-2 : tie.Need-open-requires-2
-open-requires-2 c κs = search needs
-
-mul-write3 : tie.Need-mul-write3
-mul-write3 c = search needs
-
-write3-requires : tie.Need-write3-requires
-write3-requires c κs = search needs
-
-add-t12 : tie.Need-add-t12
-add-t12 c = search needs
-
-same-length : tie.Need-same-length
-same-length c = search needs
-
-same-length-2 : tie.Need-same-length-2
-same-length-2 c = search needs
 
 returns-7 : tie.Need-returns-7
 returns-7 c =
@@ -95,20 +50,20 @@ open-row-spec =
     returns-3
     returns-4
     returns-5
-    mul-if6
-    add-if6
+    (λ c. search needs)
+    (λ c. search needs)
     returns-6
-    open-requires
-    mul-heads
-    add-heads
-    mul-heads-2
-    slice-write-heads
-    mul-open
-    mul-open-2
-    open-requires-2
-    mul-write3
-    write3-requires
-    add-t12
-    same-length
-    same-length-2
+    (λ c κs. search needs)
+    (λ c. search needs)
+    (λ c. search needs)
+    (λ c. search needs)
+    (λ c. search needs)
+    (λ c. search needs)
+    (λ c. search needs)
+    (λ c κs. search needs)
+    (λ c. search needs)
+    (λ c κs. search needs)
+    (λ c. search needs)
+    (λ c. search needs)
+    (λ c. search needs)
     returns-7)

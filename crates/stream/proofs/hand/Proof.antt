@@ -10,9 +10,6 @@ returns : tie.Need-returns
 unfolding handed
 returns c = rw (c .if1 .taken)
 
-sub-if2 : tie.Need-sub-if2
-sub-if2 c = search needs
-
 returns-2 : tie.Need-returns-2
 unfolding handed
 returns-2 c = rw (c .before .before .if1 .left, lt-ltb _ _ (c .if2 .taken))
@@ -22,4 +19,4 @@ unfolding handed
 returns-3 c = rw (c .before .before .if1 .left, le-ltb _ _ (c .if2 .left))
 
 pub hand-spec : {M : Type 1} → statement M
-hand-spec = tie.close (tie.spec returns sub-if2 returns-2 returns-3)
+hand-spec = tie.close (tie.spec returns (λ c. search needs) returns-2 returns-3)

@@ -14,21 +14,6 @@ Inv-loop s a e₀ t5 e = Searching s a e
 abbrev μ-loop : tie.MeasureT-loop
 μ-loop s a e₀ t5 e = length s - e
 
-loop-holds : tie.Need-loop-holds Inv-loop μ-loop
-loop-holds c = searching-none _ _
-
-shared-slice-read-b : tie.Need-shared-slice-read-b Inv-loop μ-loop
-shared-slice-read-b c = search needs
-
-add-e : tie.Need-add-e Inv-loop μ-loop
-add-e c = search needs
-
-slice-aggregate-stands : tie.Need-slice-aggregate-stands Inv-loop μ-loop
-slice-aggregate-stands c = search needs
-
-stands-requires : tie.Need-stands-requires Inv-loop μ-loop
-stands-requires c κs = search needs
-
 returns : tie.Need-returns Inv-loop μ-loop
 returns c =
     let at-if1 = c .before .before .before in
@@ -36,9 +21,6 @@ returns c =
     let at-loop = at-loop-test .before in
     found (at-loop .loop .inv) (at-loop-test .loop-test .taken) (at-if1 .if1 .taken)
     (sym (c .if2 .taken) ∙ c .before .stands .ensures)
-
-loop-less : tie.Need-loop-less Inv-loop μ-loop
-loop-less c = search needs
 
 loop-again : tie.Need-loop-again Inv-loop μ-loop
 loop-again c =
@@ -48,17 +30,11 @@ loop-again c =
     other-line (at-loop .loop .inv) (at-loop-test .loop-test .taken) (at-if1 .if1 .taken)
     (sym (c .if2 .left) ∙ c .before .stands .ensures)
 
-loop-less-2 : tie.Need-loop-less-2 Inv-loop μ-loop
-loop-less-2 c = search needs
-
 loop-again-2 : tie.Need-loop-again-2 Inv-loop μ-loop
 loop-again-2 c =
     let at-loop-test = c .before .before in
     let at-loop = at-loop-test .before in
     other-byte (at-loop .loop .inv) (at-loop-test .loop-test .taken) (c .if1 .left)
-
-returns-2 : tie.Need-returns-2 Inv-loop μ-loop
-returns-2 c = at-end (c .before .loop .inv) (c .loop-test .left)
 
 pub next-message-spec : {M : Type 1} → statement M
 next-message-spec =
@@ -66,14 +42,14 @@ next-message-spec =
     (tie.spec
     Inv-loop
     μ-loop
-    loop-holds
-    shared-slice-read-b
-    add-e
-    slice-aggregate-stands
-    stands-requires
+    (λ c. searching-none _ _)
+    (λ c. search needs)
+    (λ c. search needs)
+    (λ c. search needs)
+    (λ c κs. search needs)
     returns
-    loop-less
+    (λ c. search needs)
     loop-again
-    loop-less-2
+    (λ c. search needs)
     loop-again-2
-    returns-2)
+    (λ c. at-end (c .before .loop .inv) (c .loop-test .left)))

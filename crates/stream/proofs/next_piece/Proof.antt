@@ -9,19 +9,10 @@ use borrow.Author.Needs.{needs}
 use Rattle.stream.proofs.next_piece.Statement.{statement}
 use Rattle.stream.proofs.next_piece.Tie as tie
 
-returns : tie.Need-returns
-returns c = empties _ _ (c .before .before .pre) _ (c .if1 .taken)
-
 slice-aggregate-next-message : tie.Need-slice-aggregate-next-message
 slice-aggregate-next-message c =
     let at-pre = c .before .before .before in
     sym (length-take-le _ _ (at-pre .pre .high))
-
-next-message-requires : tie.Need-next-message-requires
-next-message-requires c κs = search needs
-
-hand-requires : tie.Need-hand-requires
-hand-requires c κs = omega (arith, c .before .next-message .ensures .place)
 
 returns-2 : tie.Need-returns-2
 returns-2 c =
@@ -32,9 +23,6 @@ returns-2 c =
     (hands-inside (at-start .args .buf .now) (at-start .args .c) (at-start .pre) (at-next-message .next-message .result)
     (at-next-message .next-message .ensures) (at-if1 .if1 .left) (at-start .args .last) (c .before .if2 .taken))
 
-hand-requires-2 : tie.Need-hand-requires-2
-hand-requires-2 c κs = omega (arith, c .before .before .next-message .ensures .place)
-
 returns-3 : tie.Need-returns-3
 returns-3 c =
     let at-next-message = c .before .before .before in
@@ -43,9 +31,6 @@ returns-3 c =
     subst (Steps (at-start .args .buf .now) (at-start .args .c) (at-start .args .last)) (sym (c .hand2 .ensures))
     (hands-last (at-start .args .buf .now) (at-start .args .c) (at-start .pre) (at-next-message .next-message .result)
     (at-next-message .next-message .ensures) (at-if1 .if1 .left) (at-start .args .last) (c .before .if3 .taken))
-
-wait-requires : tie.Need-wait-requires
-wait-requires c κs = search needs
 
 returns-4 : tie.Need-returns-4
 returns-4 c =
@@ -61,12 +46,12 @@ pub next-piece-spec : {M : Type 1} → statement M
 next-piece-spec =
     tie.close
     (tie.spec
-    returns
+    (λ c. empties _ _ (c .before .before .pre) _ (c .if1 .taken))
     slice-aggregate-next-message
-    next-message-requires
-    hand-requires
+    (λ c κs. search needs)
+    (λ c κs. omega (arith, c .before .next-message .ensures .place))
     returns-2
-    hand-requires-2
+    (λ c κs. omega (arith, c .before .before .next-message .ensures .place))
     returns-3
-    wait-requires
+    (λ c κs. search needs)
     returns-4)

@@ -6,12 +6,6 @@ use borrow.Author.Needs.{needs}
 use Rattle.stream.proofs.wait.Statement.{statement}
 use Rattle.stream.proofs.wait.Tie as tie
 
-sub-if1 : tie.Need-sub-if1
-sub-if1 c = search needs
-
-sub-t4 : tie.Need-sub-t4
-sub-t4 c = search needs
-
 returns : tie.Need-returns
 unfolding waiting
 returns c = rw (lt-ltb _ _ (c .before .if1 .taken))
@@ -21,4 +15,4 @@ unfolding waiting
 returns-2 c = rw (le-ltb _ _ (c .if1 .left))
 
 pub wait-spec : {M : Type 1} → statement M
-wait-spec = tie.close (tie.spec sub-if1 sub-t4 returns returns-2)
+wait-spec = tie.close (tie.spec (λ c. search needs) (λ c. search needs) returns returns-2)

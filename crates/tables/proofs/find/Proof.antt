@@ -5,12 +5,6 @@ use Rattle.tables.specs.Stands.{may-search, search-stops}
 use Rattle.tables.proofs.find.Statement.{statement}
 use Rattle.tables.proofs.find.Tie as tie
 
-may-begin-requires : tie.Need-may-begin-requires
-may-begin-requires c κs = search needs
-
-seek-requires : tie.Need-seek-requires
-seek-requires c κs = rw (c .if1 .taken) at (c .before .may-begin .ensures)
-
 returns : tie.Need-returns
 returns c = λ m v e A B pass H q b g. c .seek .ensures ∙ search-stops _ _ m v e A B H _ pass _ _ q b g
 
@@ -18,4 +12,10 @@ returns-2 : tie.Need-returns-2
 returns-2 c = λ m v e A B pass H q b g. absurd ((rw (c .if1 .left) at (c .before .may-begin .ensures)) (may-search _ _ m v e A B H _ _ q b))
 
 pub find-spec : {M : Type 1} → statement M
-find-spec = tie.close (tie.spec may-begin-requires seek-requires returns returns-2)
+find-spec =
+    tie.close
+    (tie.spec
+    (λ c κs. search needs)
+    (λ c κs. rw (c .if1 .taken) at (c .before .may-begin .ensures))
+    returns
+    returns-2)

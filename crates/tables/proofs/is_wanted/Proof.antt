@@ -5,20 +5,11 @@ use Rattle.tables.specs.Seek.{isWanted}
 use borrow.Author.Needs.{needs}
 use Rattle.tables.proofs.is_wanted.Statement.{statement}
 use Rattle.tables.proofs.is_wanted.Tie as tie
-use Rattle.tables.proofs.is_wanted.Reads as reads
-use Rattle.tables.proofs.is_wanted.Lts as lts
-use Rattle.tables.proofs.turn_of.Reads as turn-of-reads
 
--- src/lib.rt:101:9
 returns : tie.Need-returns
 unfolding isWanted
 returns c = rw (ne-eqb _ _ (c .if1 .taken))
 
--- src/lib.rt:107:20
-turn-of-requires : tie.Need-turn-of-requires
-turn-of-requires c κs = search needs
-
--- src/lib.rt:107:13
 returns-2 : tie.Need-returns-2
 unfolding isWanted
 returns-2 c =
@@ -27,12 +18,10 @@ returns-2 c =
     rw (eq-eqb _ _ (at-if1 .if1 .left), eq-eqb _ _ (at-if2 .if2 .taken), eq-eqb _ _ (c .before .if3 .taken))
     (ap (λ n. eqb n 1) (c .turn-of .ensures))
 
--- src/lib.rt:109:9
 returns-3 : tie.Need-returns-3
 unfolding isWanted
 returns-3 c = rw (eq-eqb _ _ (c .before .before .if1 .left), eq-eqb _ _ (c .before .if2 .taken), ne-eqb _ _ (c .if3 .left))
 
--- src/lib.rt:113:13
 returns-4 : tie.Need-returns-4
 unfolding isWanted
 returns-4 c =
@@ -46,7 +35,6 @@ returns-4 c =
           (c .if5 .taken),
     )
 
--- src/lib.rt:115:9
 returns-5 : tie.Need-returns-5
 unfolding isWanted
 returns-5 c =
@@ -61,11 +49,11 @@ returns-5 c =
           (c .before .if5 .left),
     )
 
--- src/lib.rt:97:1
 returns-6 : tie.Need-returns-6
 unfolding isWanted
 returns-6 c = rw (eq-eqb _ _ (c .before .before .if1 .left), ne-eqb _ _ (c .before .if2 .left), ne-eqb _ _ (c .if4 .left))
 
 pub is-wanted-spec : {M : Type 1} → statement M
 is-wanted-spec =
-    tie.close (tie.spec returns turn-of-requires returns-2 returns-3 returns-4 returns-5 returns-6)
+    tie.close
+    (tie.spec returns (λ c κs. search needs) returns-2 returns-3 returns-4 returns-5 returns-6)

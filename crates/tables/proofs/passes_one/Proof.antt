@@ -5,30 +5,19 @@ use Rattle.tables.specs.Seek.{passesOne}
 use borrow.Author.Needs.{needs}
 use Rattle.tables.proofs.passes_one.Statement.{statement}
 use Rattle.tables.proofs.passes_one.Tie as tie
-use Rattle.tables.proofs.passes_one.Reads as reads
-use Rattle.tables.proofs.passes_one.Lts as lts
-use Rattle.tables.proofs.turn_of.Reads as turn-of-reads
 
--- src/lib.rt:58:20
-turn-of-requires : tie.Need-turn-of-requires
-turn-of-requires c κs = search needs
-
--- src/lib.rt:58:13
 returns : tie.Need-returns
 unfolding passesOne
 returns c = rw (eq-eqb _ _ (c .before .before .if1 .taken), eq-eqb _ _ (c .before .if2 .taken)) (ap (λ n. eqb n 2) (c .turn-of .ensures))
 
--- src/lib.rt:60:9
 returns-2 : tie.Need-returns-2
 unfolding passesOne
 returns-2 c = rw (eq-eqb _ _ (c .before .if1 .taken), ne-eqb _ _ (c .if2 .left))
 
--- src/lib.rt:64:13
 returns-3 : tie.Need-returns-3
 unfolding passesOne
 returns-3 c = rw (ne-eqb _ _ (c .before .before .if1 .left), eq-eqb _ _ (c .before .if3 .taken), eq-eqb _ _ (c .if4 .taken))
 
--- src/lib.rt:66:9
 returns-4 : tie.Need-returns-4
 unfolding passesOne
 returns-4 c =
@@ -36,7 +25,6 @@ returns-4 c =
     let at-if1 = at-if3 .before in
     rw (ne-eqb _ _ (at-if1 .if1 .left), eq-eqb _ _ (at-if3 .if3 .taken), ne-eqb _ _ (c .before .if4 .left))
 
--- src/lib.rt:70:13
 returns-5 : tie.Need-returns-5
 unfolding passesOne
 returns-5 c =
@@ -50,7 +38,6 @@ returns-5 c =
           (c .if6 .taken),
     )
 
--- src/lib.rt:72:9
 returns-6 : tie.Need-returns-6
 unfolding passesOne
 returns-6 c =
@@ -65,7 +52,6 @@ returns-6 c =
           (c .before .if6 .left),
     )
 
--- src/lib.rt:76:13
 returns-7 : tie.Need-returns-7
 unfolding passesOne
 returns-7 c =
@@ -81,7 +67,6 @@ returns-7 c =
       eq-eqb _ _ (c .if8 .taken),
     )
 
--- src/lib.rt:78:9
 returns-8 : tie.Need-returns-8
 unfolding passesOne
 returns-8 c =
@@ -98,7 +83,6 @@ returns-8 c =
       ne-eqb _ _ (c .before .if8 .left),
     )
 
--- src/lib.rt:52:1
 returns-9 : tie.Need-returns-9
 unfolding passesOne
 returns-9 c =
@@ -116,7 +100,7 @@ pub passes-one-spec : {M : Type 1} → statement M
 passes-one-spec =
     tie.close
     (tie.spec
-    turn-of-requires
+    (λ c κs. search needs)
     returns
     returns-2
     returns-3

@@ -2,20 +2,15 @@ use borrow.Author.Tests.{lt-ltb, le-ltb}
 use Rattle.meaning.specs.Places.{order}
 use Rattle.tables.proofs.turn_of.Statement.{statement}
 use Rattle.tables.proofs.turn_of.Tie as tie
-use Rattle.tables.proofs.turn_of.Reads as reads
-use Rattle.tables.proofs.turn_of.Lts as lts
 
--- src/lib.rt:31:9
 returns : tie.Need-returns
 unfolding order
 returns c = rw (lt-ltb _ _ (c .if1 .taken), order)
 
--- src/lib.rt:34:9
 returns-2 : tie.Need-returns-2
 unfolding order
 returns-2 c = rw (le-ltb _ _ (c .before .before .if1 .left), lt-ltb _ _ (c .if2 .taken), order)
 
--- src/lib.rt:37:9
 returns-3 : tie.Need-returns-3
 unfolding order
 returns-3 c =
@@ -23,7 +18,6 @@ returns-3 c =
     let at-if1 = at-if2 .before .before in
     rw (le-ltb _ _ (at-if1 .if1 .left), le-ltb _ _ (at-if2 .if2 .left), lt-ltb _ _ (c .if3 .taken), order)
 
--- src/lib.rt:40:9
 returns-4 : tie.Need-returns-4
 unfolding order
 returns-4 c =
@@ -38,7 +32,6 @@ returns-4 c =
       order,
     )
 
--- src/lib.rt:43:9
 returns-5 : tie.Need-returns-5
 unfolding order
 returns-5 c =
@@ -56,7 +49,6 @@ returns-5 c =
       order,
     )
 
--- src/lib.rt:46:9
 returns-6 : tie.Need-returns-6
 unfolding order
 returns-6 c =
@@ -76,7 +68,6 @@ returns-6 c =
       order,
     )
 
--- src/lib.rt:27:1
 returns-7 : tie.Need-returns-7
 unfolding order
 returns-7 c =

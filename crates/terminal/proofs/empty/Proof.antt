@@ -3,8 +3,5 @@ use Rattle.terminal.proofs.New.{new-keeps}
 use Rattle.terminal.proofs.empty.Statement.{statement}
 use Rattle.terminal.proofs.empty.Tie as tie
 
-returns : tie.Need-returns
-returns c = new-keeps
-
 pub empty-spec : {M : Type 1} → statement M
-empty-spec = tie.close (tie.spec returns)
+empty-spec = tie.close (tie.spec (λ c. new-keeps))

@@ -19,30 +19,6 @@ returns-3 : tie.Need-returns-3
 unfolding TakesOut
 returns-3 c A R o W e = absurd (omega (arith, among _ _ _ A R o W e, c .if3 .taken))
 
-mul-close : tie.Need-mul-close
-mul-close c = search needs
-
-mul-close-2 : tie.Need-mul-close-2
-mul-close-2 c = search needs
-
-add-close : tie.Need-add-close
-add-close c = search needs
-
-mul-close-3 : tie.Need-mul-close-3
-mul-close-3 c = search needs
-
-close-requires : tie.Need-close-requires
-close-requires c κs = search needs
-
-sub-result : tie.Need-sub-result
-sub-result c = search needs
-
-same-length : tie.Need-same-length
-same-length c = search needs
-
-returns-4 : tie.Need-returns-4
-returns-4 c = takes-out _ _ _ _ (c .before .before .close .ensures)
-
 pub take-out-spec : {M : Type 1} → statement M
 take-out-spec =
     tie.close
@@ -50,11 +26,11 @@ take-out-spec =
     returns
     returns-2
     returns-3
-    mul-close
-    mul-close-2
-    add-close
-    mul-close-3
-    close-requires
-    sub-result
-    same-length
-    returns-4)
+    (λ c. search needs)
+    (λ c. search needs)
+    (λ c. search needs)
+    (λ c. search needs)
+    (λ c κs. search needs)
+    (λ c. search needs)
+    (λ c. search needs)
+    (λ c. takes-out _ _ _ _ (c .before .before .close .ensures)))

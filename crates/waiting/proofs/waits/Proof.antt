@@ -15,33 +15,15 @@ returns-2 : tie.Need-returns-2
 unfolding TellsWaits
 returns-2 c os W = absurd (omega (arith, W .fit, c .if2 .taken))
 
-rank-rows-requires : tie.Need-rank-rows-requires
-rank-rows-requires c κs = search needs
-
-returns-3 : tie.Need-returns-3
-returns-3 c = waits-none _ _ _ _ (c .before .rank-rows .ensures) (c .if3 .taken)
-
-mul-result : tie.Need-mul-result
-mul-result c = search needs
-
-mul-result-2 : tie.Need-mul-result-2
-mul-result-2 c = search needs
-
-shared-slice-read-result : tie.Need-shared-slice-read-result
-shared-slice-read-result c = search needs
-
-returns-4 : tie.Need-returns-4
-returns-4 c = waits-one _ _ _ _ (c .before .before .rank-rows .ensures) (c .before .if3 .left)
-
 pub waits-spec : {M : Type 1} → statement M
 waits-spec =
     tie.close
     (tie.spec
     returns
     returns-2
-    rank-rows-requires
-    returns-3
-    mul-result
-    mul-result-2
-    shared-slice-read-result
-    returns-4)
+    (λ c κs. search needs)
+    (λ c. waits-none _ _ _ _ (c .before .rank-rows .ensures) (c .if3 .taken))
+    (λ c. search needs)
+    (λ c. search needs)
+    (λ c. search needs)
+    (λ c. waits-one _ _ _ _ (c .before .before .rank-rows .ensures) (c .before .if3 .left)))

@@ -52,54 +52,6 @@ claims t = (
   carry-reads.Learnt,
 )
 
-weigh-way-weightless-requires : (t : ℕ) → weigh-way-lts.Need-weightless-requires (claims t) (weigh-way-at t) weigh-way.Post
-weigh-way-weightless-requires t c κs = search needs
-
-weigh-way-returns : (t : ℕ) → weigh-way-lts.Need-returns (claims t) (weigh-way-at t) weigh-way.Post
-weigh-way-returns t c = rw (c .weightless .ensures) (short-weighed _ _ _ _ _ _ _ _ _ _ _ (c .before .if1 .taken))
-
-weigh-way-weightless-requires-2 : (t : ℕ) → weigh-way-lts.Need-weightless-requires-2 (claims t) (weigh-way-at t) weigh-way.Post
-weigh-way-weightless-requires-2 t c κs = search needs
-
-weigh-way-returns-2 : (t : ℕ) → weigh-way-lts.Need-returns-2 (claims t) (weigh-way-at t) weigh-way.Post
-weigh-way-returns-2 t c = rw (c .weightless2 .ensures) (deep-weighed _ _ _ _ _ _ _ _ _ _ _ (c .before .if2 .taken))
-
-weigh-way-shared-slice-read-hi : (t : ℕ) → weigh-way-lts.Need-shared-slice-read-hi (claims t) (weigh-way-at t) weigh-way.Post
-weigh-way-shared-slice-read-hi t c = search needs
-
-weigh-way-shared-slice-read-lo : (t : ℕ) → weigh-way-lts.Need-shared-slice-read-lo (claims t) (weigh-way-at t) weigh-way.Post
-weigh-way-shared-slice-read-lo t c = search needs
-
-weigh-way-shared-slice-read-len : (t : ℕ) → weigh-way-lts.Need-shared-slice-read-len (claims t) (weigh-way-at t) weigh-way.Post
-weigh-way-shared-slice-read-len t c = search needs
-
-weigh-way-weigh-last-requires : (t : ℕ) → weigh-way-lts.Need-weigh-last-requires (claims t) (weigh-way-at t) weigh-way.Post
-weigh-way-weigh-last-requires t c κs = search needs
-
-weigh-way-returns-3 : (t : ℕ) → weigh-way-lts.Need-returns-3 (claims t) (weigh-way-at t) weigh-way.Post
-weigh-way-returns-3 t c = last-weighed _ _ _ _ _ _ _ _ _ _ _ (c .before .if3 .taken) _ (c .weigh-last .ensures)
-
-weigh-way-look-requires : (t : ℕ) → weigh-way-lts.Need-look-requires (claims t) (weigh-way-at t) weigh-way.Post
-weigh-way-look-requires t c κs = search needs
-
-weigh-way-past-requires : (t : ℕ) → weigh-way-lts.Need-past-requires (claims t) (weigh-way-at t) weigh-way.Post
-weigh-way-past-requires t c κs = search needs
-
-weigh-way-add-weigh-way : (t : ℕ) → weigh-way-lts.Need-add-weigh-way (claims t) (weigh-way-at t) weigh-way.Post
-weigh-way-add-weigh-way t c = search needs
-
-weigh-way-sub-weigh-way : (t : ℕ) → weigh-way-lts.Need-sub-weigh-way (claims t) (weigh-way-at t) weigh-way.Post
-weigh-way-sub-weigh-way t c = search needs
-
-weigh-way-part-weigh-way-start : (t : ℕ) → weigh-way-lts.Need-part-weigh-way-start (claims t) (weigh-way-at t) weigh-way.Post
-weigh-way-part-weigh-way-start t c = search needs
-
-weigh-way-part-weigh-way-end : (t : ℕ) → weigh-way-lts.Need-part-weigh-way-end (claims t) (weigh-way-at t) weigh-way.Post
-weigh-way-part-weigh-way-end t c = search needs
-
-weigh-way-weigh-way-requires : (t : ℕ) → weigh-way-lts.Need-weigh-way-requires (claims t) (weigh-way-at t) weigh-way.Post
-weigh-way-weigh-way-requires t c κs = search needs
-
 weigh-way-mark-requires : (t : ℕ) → weigh-way-lts.Need-mark-requires (claims t) (weigh-way-at t) weigh-way.Post
 weigh-way-mark-requires t c κs =
     let at-good = c .before .before .before .before .before .before
@@ -111,9 +63,6 @@ weigh-way-mark-requires t c κs =
       at-good .good .1 .1 .1 .1 .1 .1 .1 .1 .1 .1
           .0 .1,
     )
-
-weigh-way-covered-requires : (t : ℕ) → weigh-way-lts.Need-covered-requires (claims t) (weigh-way-at t) weigh-way.Post
-weigh-way-covered-requires t c κs = search needs
 
 weigh-way-carry-requires : (t : ℕ) → weigh-way-lts.Need-carry-requires (claims t) (weigh-way-at t) weigh-way.Post
 weigh-way-carry-requires t c κs =
@@ -148,23 +97,23 @@ pub +weigh-way-spec : {M : Type 1} → statement M
 +weigh-way-spec = close μ-weigh-way λ t. weigh-way-lts.spec (claims t)
     (weigh-way-at t)
     weigh-way.Post
-    (weigh-way-weightless-requires t)
-    (weigh-way-returns t)
-    (weigh-way-weightless-requires-2 t)
-    (weigh-way-returns-2 t)
-    (weigh-way-shared-slice-read-hi t)
-    (weigh-way-shared-slice-read-lo t)
-    (weigh-way-shared-slice-read-len t)
-    (weigh-way-weigh-last-requires t)
-    (weigh-way-returns-3 t)
-    (weigh-way-look-requires t)
-    (weigh-way-past-requires t)
-    (weigh-way-add-weigh-way t)
-    (weigh-way-sub-weigh-way t)
-    (weigh-way-part-weigh-way-start t)
-    (weigh-way-part-weigh-way-end t)
-    (weigh-way-weigh-way-requires t)
+    (λ c κs. search needs)
+    (λ c. rw (c .weightless .ensures) (short-weighed _ _ _ _ _ _ _ _ _ _ _ (c .before .if1 .taken)))
+    (λ c κs. search needs)
+    (λ c. rw (c .weightless2 .ensures) (deep-weighed _ _ _ _ _ _ _ _ _ _ _ (c .before .if2 .taken)))
+    (λ c. search needs)
+    (λ c. search needs)
+    (λ c. search needs)
+    (λ c κs. search needs)
+    (λ c. last-weighed _ _ _ _ _ _ _ _ _ _ _ (c .before .if3 .taken) _ (c .weigh-last .ensures))
+    (λ c κs. search needs)
+    (λ c κs. search needs)
+    (λ c. search needs)
+    (λ c. search needs)
+    (λ c. search needs)
+    (λ c. search needs)
+    (λ c κs. search needs)
     (weigh-way-mark-requires t)
-    (weigh-way-covered-requires t)
+    (λ c κs. search needs)
     (weigh-way-carry-requires t)
     (weigh-way-returns-4 t)

@@ -10,16 +10,10 @@ returns c =
     let at-start = c .before .before .before .before .before in
     sight-none _ _ _ _ _ (at-start .args .plain) _ (not-true _ (c .if1 .taken))
 
-gone-row-requires : tie.Need-gone-row-requires
-gone-row-requires c κs = search needs
-
 returns-2 : tie.Need-returns-2
 returns-2 c =
     let at-if1 = c .before .before .before in
     sight-row _ _ _ _ _ _ _ _ (c .before .if2 .taken) (not-false _ (at-if1 .if1 .left)) (c .gone-row .ensures)
-
-gone-requires : tie.Need-gone-requires
-gone-requires c κs = search needs
 
 returns-3 : tie.Need-returns-3
 returns-3 c =
@@ -27,4 +21,5 @@ returns-3 c =
     sight-block _ _ _ _ _ _ _ _ (c .before .if2 .left) (not-false _ (at-if1 .if1 .left)) (c .gone .ensures)
 
 pub lost-at-spec : {M : Type 1} → statement M
-lost-at-spec = tie.close (tie.spec returns gone-row-requires returns-2 gone-requires returns-3)
+lost-at-spec =
+    tie.close (tie.spec returns (λ c κs. search needs) returns-2 (λ c κs. search needs) returns-3)

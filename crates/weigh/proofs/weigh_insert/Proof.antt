@@ -4,22 +4,10 @@ use Rattle.weigh.proofs.Ways.{insert-first, insert-there, insert-missin
 use Rattle.weigh.proofs.weigh_insert.Statement.{statement}
 use Rattle.weigh.proofs.weigh_insert.Tie as tie
 
-element-requires : tie.Need-element-requires
-element-requires c κs = search needs
-
 returns : tie.Need-returns
 returns c m v =
     let at-pre = c .before .before .before .before in
     rw (c .element .ensures) (insert-first _ _ m v _ _ _ _ _ _ _ _ _ (at-pre .pre) (c .before .if1 .taken))
-
-look-requires : tie.Need-look-requires
-look-requires c κs = search needs
-
-covered-requires : tie.Need-covered-requires
-covered-requires c κs = search needs
-
-element-requires-2 : tie.Need-element-requires-2
-element-requires-2 c κs = search needs
 
 returns-2 : tie.Need-returns-2
 returns-2 c m v =
@@ -29,9 +17,6 @@ returns-2 c m v =
     let at-pre = at-if1 .before .before .before in
     rw (c .element2 .ensures, c .before .covered .ensures)
     (insert-there _ _ m v _ _ _ _ _ _ _ _ _ _ (at-pre .pre) (at-if1 .if1 .left) (at-look .look .ensures) (at-if2 .if2 .taken))
-
-weightless-requires : tie.Need-weightless-requires
-weightless-requires c κs = search needs
 
 returns-3 : tie.Need-returns-3
 returns-3 c m v =
@@ -45,11 +30,11 @@ pub weigh-insert-spec : {M : Type 1} → statement M
 weigh-insert-spec =
     tie.close
     (tie.spec
-    element-requires
+    (λ c κs. search needs)
     returns
-    look-requires
-    covered-requires
-    element-requires-2
+    (λ c κs. search needs)
+    (λ c κs. search needs)
+    (λ c κs. search needs)
     returns-2
-    weightless-requires
+    (λ c κs. search needs)
     returns-3)

@@ -8,9 +8,6 @@ use Rattle.weigh.proofs.Weights.{place-weighed}
 use Rattle.weigh.proofs.weigh_place.Statement.{statement}
 use Rattle.weigh.proofs.weigh_place.Tie as tie
 
-lost-at-requires : tie.Need-lost-at-requires
-lost-at-requires c κs = search needs
-
 returns : tie.Need-returns
 returns c =
     let at-start = c .before .before .before .before .before in
@@ -32,4 +29,4 @@ returns-3 c =
     (omega arith)
 
 pub weigh-place-spec : {M : Type 1} → statement M
-weigh-place-spec = tie.close (tie.spec lost-at-requires returns returns-2 returns-3)
+weigh-place-spec = tie.close (tie.spec (λ c κs. search needs) returns returns-2 returns-3)

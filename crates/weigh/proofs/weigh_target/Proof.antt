@@ -4,18 +4,6 @@ use Rattle.weigh.proofs.Ways.{target-weighed}
 use Rattle.weigh.proofs.weigh_target.Statement.{statement}
 use Rattle.weigh.proofs.weigh_target.Tie as tie
 
-look-requires : tie.Need-look-requires
-look-requires c κs = search needs
-
-weigh-place-requires : tie.Need-weigh-place-requires
-weigh-place-requires c κs = search needs
-
-covered-requires : tie.Need-covered-requires
-covered-requires c κs = search needs
-
-carry-requires : tie.Need-carry-requires
-carry-requires c κs = search needs
-
 returns : tie.Need-returns
 returns c =
     let at-weigh-place = c .before .before in
@@ -26,4 +14,10 @@ returns c =
 
 pub weigh-target-spec : {M : Type 1} → statement M
 weigh-target-spec =
-    tie.close (tie.spec look-requires weigh-place-requires covered-requires carry-requires returns)
+    tie.close
+    (tie.spec
+    (λ c κs. search needs)
+    (λ c κs. search needs)
+    (λ c κs. search needs)
+    (λ c κs. search needs)
+    returns)

@@ -16,24 +16,6 @@ returns c =
     sym (ap (λ (to : ℕ). closed 0 (a .live) (a .from) to (a .t .now)) (c .if1 .taken) ∙ closed-none 0 (a .live) (a .from)
     (a .t .now) (p .1) (p .2))
 
-sub-n : tie.Need-sub-n
-sub-n c = search needs
-
-lower-requires : tie.Need-lower-requires
-lower-requires c κs = search needs
-
-add-blank : tie.Need-add-blank
-add-blank c = search needs
-
-sub-blank : tie.Need-sub-blank
-sub-blank c = search needs
-
-blank-requires : tie.Need-blank-requires
-blank-requires c κs = search needs
-
-same-length : tie.Need-same-length
-same-length c = search needs
-
 returns-2 : tie.Need-returns-2
 returns-2 c =
     let at-blank = c .before .before in
@@ -47,4 +29,12 @@ returns-2 c =
 pub close-spec : {M : Type 1} → statement M
 close-spec =
     tie.close
-    (tie.spec returns sub-n lower-requires add-blank sub-blank blank-requires same-length returns-2)
+    (tie.spec
+    returns
+    (λ c. search needs)
+    (λ c κs. search needs)
+    (λ c. search needs)
+    (λ c. search needs)
+    (λ c κs. search needs)
+    (λ c. search needs)
+    returns-2)

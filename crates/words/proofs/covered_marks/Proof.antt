@@ -16,30 +16,6 @@ Inv-loop t from n deps r₀ i₀ r i = (i ≤ n) × Counting 1 (uncovered deps) 
 abbrev μ-loop : tie.MeasureT-loop
 μ-loop t from n deps r₀ i₀ r i = n - i
 
-loop-holds : tie.Need-loop-holds Inv-loop μ-loop
-loop-holds c = (omega arith, counting-start _ _ _ _)
-
-add-covers : tie.Need-add-covers Inv-loop μ-loop
-add-covers c = omega arith
-
-mul-covers : tie.Need-mul-covers Inv-loop μ-loop
-mul-covers c = omega arith
-
-shared-slice-read-covers : tie.Need-shared-slice-read-covers Inv-loop μ-loop
-shared-slice-read-covers c = omega arith
-
-covers-requires : tie.Need-covers-requires Inv-loop μ-loop
-covers-requires c κs = search needs
-
-add-r : tie.Need-add-r Inv-loop μ-loop
-add-r c = omega arith
-
-add-i : tie.Need-add-i Inv-loop μ-loop
-add-i c = omega arith
-
-loop-less : tie.Need-loop-less Inv-loop μ-loop
-loop-less c = omega arith
-
 loop-again : tie.Need-loop-again Inv-loop μ-loop
 loop-again c =
     let at-loop = c .before .before .before .before .before in
@@ -73,13 +49,13 @@ covered-marks-spec =
     (tie.spec
     Inv-loop
     μ-loop
-    loop-holds
-    add-covers
-    mul-covers
-    shared-slice-read-covers
-    covers-requires
-    add-r
-    add-i
-    loop-less
+    (λ c. (omega arith, counting-start _ _ _ _))
+    (λ c. omega arith)
+    (λ c. omega arith)
+    (λ c. omega arith)
+    (λ c κs. search needs)
+    (λ c. omega arith)
+    (λ c. omega arith)
+    (λ c. omega arith)
     loop-again
     returns)

@@ -16,33 +16,6 @@ Inv-loop t₀ from n to deps i₀ at₀ w₀ t i at w = (i ≤ n) × (at ≡ fro
 abbrev μ-loop : tie.MeasureT-loop
 μ-loop t₀ from n to deps i₀ at₀ w₀ t i at w = n - i
 
-loop-holds : tie.Need-loop-holds Inv-loop μ-loop
-loop-holds c = (omega arith, omega arith, keeping-start _ _ _ _ _)
-
-mul-covers : tie.Need-mul-covers Inv-loop μ-loop
-mul-covers c = omega arith
-
-slice-read-covers : tie.Need-slice-read-covers Inv-loop μ-loop
-slice-read-covers c = omega arith
-
-covers-requires : tie.Need-covers-requires Inv-loop μ-loop
-covers-requires c κs = search needs
-
-lower-requires : tie.Need-lower-requires Inv-loop μ-loop
-lower-requires c κs = (omega arith, omega arith)
-
-add-w : tie.Need-add-w Inv-loop μ-loop
-add-w c = omega arith
-
-add-at : tie.Need-add-at Inv-loop μ-loop
-add-at c = omega arith
-
-add-i : tie.Need-add-i Inv-loop μ-loop
-add-i c = omega arith
-
-loop-less : tie.Need-loop-less Inv-loop μ-loop
-loop-less c = omega arith
-
 loop-again : tie.Need-loop-again Inv-loop μ-loop
 loop-again c =
     let at-loop = c .before .before .before .before .before in
@@ -65,9 +38,6 @@ loop-again c =
     ))
     (c .if1 .came)
 
-same-length : tie.Need-same-length Inv-loop μ-loop
-same-length c = c .before .loop .inv .2 .len
-
 returns : tie.Need-returns Inv-loop μ-loop
 returns c =
     let a = c .before .before .before .before in
@@ -81,15 +51,15 @@ keep-values-spec =
     (tie.spec
     Inv-loop
     μ-loop
-    loop-holds
-    mul-covers
-    slice-read-covers
-    covers-requires
-    lower-requires
-    add-w
-    add-at
-    add-i
-    loop-less
+    (λ c. (omega arith, omega arith, keeping-start _ _ _ _ _))
+    (λ c. omega arith)
+    (λ c. omega arith)
+    (λ c κs. search needs)
+    (λ c κs. (omega arith, omega arith))
+    (λ c. omega arith)
+    (λ c. omega arith)
+    (λ c. omega arith)
+    (λ c. omega arith)
     loop-again
-    same-length
+    (λ c. c .before .loop .inv .2 .len)
     returns)

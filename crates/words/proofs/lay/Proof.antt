@@ -13,30 +13,6 @@ Inv-loop t₀ at w i₀ t i = (i ≤ length w) × Laying at i w t₀ t
 abbrev μ-loop : tie.MeasureT-loop
 μ-loop t₀ at w i₀ t i = length w - i
 
-loop-holds : tie.Need-loop-holds Inv-loop μ-loop
-loop-holds c = (omega arith, laying-start _ _ _)
-
-mul-t : tie.Need-mul-t Inv-loop μ-loop
-mul-t c = omega arith
-
-shared-slice-read-t : tie.Need-shared-slice-read-t Inv-loop μ-loop
-shared-slice-read-t c = omega arith
-
-add-t : tie.Need-add-t Inv-loop μ-loop
-add-t c = omega arith
-
-mul-t-2 : tie.Need-mul-t-2 Inv-loop μ-loop
-mul-t-2 c = omega arith
-
-slice-write-t : tie.Need-slice-write-t Inv-loop μ-loop
-slice-write-t c = omega arith
-
-add-i : tie.Need-add-i Inv-loop μ-loop
-add-i c = omega arith
-
-loop-less : tie.Need-loop-less Inv-loop μ-loop
-loop-less c = omega arith
-
 loop-again : tie.Need-loop-again Inv-loop μ-loop
 loop-again c =
     let at-loop = c .before .before in
@@ -46,9 +22,6 @@ loop-again c =
       laying-step (a .args .at) (l .i) (a .args .w .now) (a .args .t .now) (l .t) (omega arith) (omega arith)
           (l .inv .1) _ refl,
     )
-
-same-length : tie.Need-same-length Inv-loop μ-loop
-same-length c = c .before .loop .inv .1 .len
 
 returns : tie.Need-returns Inv-loop μ-loop
 returns c =
@@ -62,14 +35,14 @@ lay-spec =
     (tie.spec
     Inv-loop
     μ-loop
-    loop-holds
-    mul-t
-    shared-slice-read-t
-    add-t
-    mul-t-2
-    slice-write-t
-    add-i
-    loop-less
+    (λ c. (omega arith, laying-start _ _ _))
+    (λ c. omega arith)
+    (λ c. omega arith)
+    (λ c. omega arith)
+    (λ c. omega arith)
+    (λ c. omega arith)
+    (λ c. omega arith)
+    (λ c. omega arith)
     loop-again
-    same-length
+    (λ c. c .before .loop .inv .1 .len)
     returns)

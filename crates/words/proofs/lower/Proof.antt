@@ -12,33 +12,6 @@ Inv-loop t₀ from n to i₀ t i = (i ≤ n) × Laying to i (run from n t₀) t�
 abbrev μ-loop : tie.MeasureT-loop
 μ-loop t₀ from n to i₀ t i = n - i
 
-loop-holds : tie.Need-loop-holds Inv-loop μ-loop
-loop-holds c = (omega arith, laying-start _ _ _)
-
-add-x : tie.Need-add-x Inv-loop μ-loop
-add-x c = omega arith
-
-mul-x : tie.Need-mul-x Inv-loop μ-loop
-mul-x c = omega arith
-
-slice-read-x : tie.Need-slice-read-x Inv-loop μ-loop
-slice-read-x c = omega arith
-
-add-t : tie.Need-add-t Inv-loop μ-loop
-add-t c = omega arith
-
-mul-t : tie.Need-mul-t Inv-loop μ-loop
-mul-t c = omega arith
-
-slice-write-t : tie.Need-slice-write-t Inv-loop μ-loop
-slice-write-t c = omega arith
-
-add-i : tie.Need-add-i Inv-loop μ-loop
-add-i c = omega arith
-
-loop-less : tie.Need-loop-less Inv-loop μ-loop
-loop-less c = omega arith
-
 loop-again : tie.Need-loop-again Inv-loop μ-loop
 loop-again c =
     let at-loop = c .before .before in
@@ -48,9 +21,6 @@ loop-again c =
       lower-step (a .args .from) (a .args .n) (a .args .to) (l .i) (a .args .t .now) (l .t) (a .pre .0) (a .pre .1) (omega arith)
           (l .inv .1),
     )
-
-same-length : tie.Need-same-length Inv-loop μ-loop
-same-length c = c .before .loop .inv .1 .len
 
 returns : tie.Need-returns Inv-loop μ-loop
 returns c =
@@ -64,15 +34,15 @@ lower-spec =
     (tie.spec
     Inv-loop
     μ-loop
-    loop-holds
-    add-x
-    mul-x
-    slice-read-x
-    add-t
-    mul-t
-    slice-write-t
-    add-i
-    loop-less
+    (λ c. (omega arith, laying-start _ _ _))
+    (λ c. omega arith)
+    (λ c. omega arith)
+    (λ c. omega arith)
+    (λ c. omega arith)
+    (λ c. omega arith)
+    (λ c. omega arith)
+    (λ c. omega arith)
+    (λ c. omega arith)
     loop-again
-    same-length
+    (λ c. c .before .loop .inv .1 .len)
     returns)

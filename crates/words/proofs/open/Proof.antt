@@ -12,30 +12,6 @@ Inv-loop t₀ live at n i₀ t i = (at ≤ i) × (i ≤ live) × Opening live n 
 abbrev μ-loop : tie.MeasureT-loop
 μ-loop t₀ live at n i₀ t i = i
 
-loop-holds : tie.Need-loop-holds Inv-loop μ-loop
-loop-holds c = (omega arith, omega arith, opening-start (c .args .live) (c .args .n) (c .args .t .now))
-
-sub-i : tie.Need-sub-i Inv-loop μ-loop
-sub-i c = omega arith
-
-mul-x : tie.Need-mul-x Inv-loop μ-loop
-mul-x c = omega arith
-
-slice-read-x : tie.Need-slice-read-x Inv-loop μ-loop
-slice-read-x c = omega arith
-
-add-t : tie.Need-add-t Inv-loop μ-loop
-add-t c = omega arith
-
-mul-t : tie.Need-mul-t Inv-loop μ-loop
-mul-t c = omega arith
-
-slice-write-t : tie.Need-slice-write-t Inv-loop μ-loop
-slice-write-t c = omega arith
-
-loop-less : tie.Need-loop-less Inv-loop μ-loop
-loop-less c = omega arith
-
 loop-again : tie.Need-loop-again Inv-loop μ-loop
 loop-again c =
     let at-loop = c .before .before in
@@ -46,9 +22,6 @@ loop-again c =
       opening-step (a .args .live) (a .args .n) (l .i - 1) (a .args .t .now) (a .pre .1) (omega arith) (l .i) (l .t) (omega arith)
           (l .inv .2),
     )
-
-same-length : tie.Need-same-length Inv-loop μ-loop
-same-length c = c .before .loop .inv .2 .len
 
 returns : tie.Need-returns Inv-loop μ-loop
 returns c =
@@ -61,14 +34,14 @@ open-spec =
     (tie.spec
     Inv-loop
     μ-loop
-    loop-holds
-    sub-i
-    mul-x
-    slice-read-x
-    add-t
-    mul-t
-    slice-write-t
-    loop-less
+    (λ c. (omega arith, omega arith, opening-start (c .args .live) (c .args .n) (c .args .t .now)))
+    (λ c. omega arith)
+    (λ c. omega arith)
+    (λ c. omega arith)
+    (λ c. omega arith)
+    (λ c. omega arith)
+    (λ c. omega arith)
+    (λ c. omega arith)
     loop-again
-    same-length
+    (λ c. c .before .loop .inv .2 .len)
     returns)

@@ -13,9 +13,6 @@ Inv-loop t from n w id i₀ at₀ i at = (at ≡ from + i * w) × Ranking w id f
 abbrev μ-loop : tie.MeasureT-loop
 μ-loop t from n w id i₀ at₀ i at = n - i
 
-loop-holds : tie.Need-loop-holds Inv-loop μ-loop
-loop-holds c = (omega (arith, zero-mul (c .args .w)), ranking-start _ _ _ _ _)
-
 mul-if1 : tie.Need-mul-if1 Inv-loop μ-loop
 mul-if1 c = omega (arith, row-in (c .before .loop .i) (c .before .before .args .n) (c .before .before .args .w) (c .loop-test .taken))
 
@@ -40,12 +37,6 @@ add-at c =
     let at-start = at-loop .before in
     omega (arith, row-in (at-loop .loop .i) (at-start .args .n) (at-start .args .w) (at-loop-test .loop-test .taken))
 
-add-i : tie.Need-add-i Inv-loop μ-loop
-add-i c = omega arith
-
-loop-less : tie.Need-loop-less Inv-loop μ-loop
-loop-less c = omega arith
-
 loop-again : tie.Need-loop-again Inv-loop μ-loop
 loop-again c =
     let at-loop = c .before .before .before in
@@ -68,12 +59,12 @@ rank-rows-spec =
     (tie.spec
     Inv-loop
     μ-loop
-    loop-holds
+    (λ c. (omega (arith, zero-mul (c .args .w)), ranking-start _ _ _ _ _))
     mul-if1
     shared-slice-read-if1
     returns
     add-at
-    add-i
-    loop-less
+    (λ c. omega arith)
+    (λ c. omega arith)
     loop-again
     returns-2)

@@ -4,9 +4,6 @@ use mathlib.Core.Path.{_≡_, refl}
 use lib.ListN.{length}
 use Rattle.works.proofs.receive_all.Statement.{statement}
 use Rattle.works.proofs.receive_all.Tie as tie
-use Rattle.works.proofs.receive_all.Reads as reads
-use Rattle.works.proofs.receive_all.Lts as lts
-use Rattle.works.proofs.receive.Reads as receive-reads
 
 abbrev Inv-loop : tie.InvT-loop
 Inv-loop text heads₀ keys₀ marks₀ values₀ waiting₀ p₀ left₀ heads keys marks values waiting p left =
@@ -16,12 +13,6 @@ Inv-loop text heads₀ keys₀ marks₀ values₀ waiting₀ p₀ left₀ heads 
 abbrev μ-loop : tie.MeasureT-loop
 μ-loop text heads₀ keys₀ marks₀ values₀ waiting₀ p₀ left₀ heads keys marks values waiting p left =
     left
-
-loop-holds : tie.Need-loop-holds Inv-loop μ-loop
-loop-holds c = (refl, refl, refl, refl, refl)
-
-receive-requires : tie.Need-receive-requires Inv-loop μ-loop
-receive-requires c κs = tt
 
 sub-left : tie.Need-sub-left Inv-loop μ-loop
 sub-left c =
@@ -67,40 +58,22 @@ loop-again-2 c =
           (arith, at-loop .loop .inv .4, at-receive .receive .kept),
     )
 
-same-length : tie.Need-same-length Inv-loop μ-loop
-same-length c = omega (arith, c .before .loop .inv .0)
-
-same-length-2 : tie.Need-same-length-2 Inv-loop μ-loop
-same-length-2 c = omega (arith, c .before .loop .inv .1)
-
-same-length-3 : tie.Need-same-length-3 Inv-loop μ-loop
-same-length-3 c = omega (arith, c .before .loop .inv .2)
-
-same-length-4 : tie.Need-same-length-4 Inv-loop μ-loop
-same-length-4 c = omega (arith, c .before .loop .inv .3)
-
-same-length-5 : tie.Need-same-length-5 Inv-loop μ-loop
-same-length-5 c = omega (arith, c .before .loop .inv .4)
-
-returns : tie.Need-returns Inv-loop μ-loop
-returns c = tt
-
 pub receive-all-spec : {M : Type 1} → statement M
 receive-all-spec =
     tie.close
     (tie.spec
     Inv-loop
     μ-loop
-    loop-holds
-    receive-requires
+    (λ c. (refl, refl, refl, refl, refl))
+    (λ c κs. tt)
     sub-left
     loop-less
     loop-again
     loop-less-2
     loop-again-2
-    same-length
-    same-length-2
-    same-length-3
-    same-length-4
-    same-length-5
-    returns)
+    (λ c. omega (arith, c .before .loop .inv .0))
+    (λ c. omega (arith, c .before .loop .inv .1))
+    (λ c. omega (arith, c .before .loop .inv .2))
+    (λ c. omega (arith, c .before .loop .inv .3))
+    (λ c. omega (arith, c .before .loop .inv .4))
+    (λ c. tt))

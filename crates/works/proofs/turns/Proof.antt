@@ -4,9 +4,6 @@ use mathlib.Core.Path.{_≡_, refl}
 use lib.ListN.{length}
 use Rattle.works.proofs.turns.Statement.{statement}
 use Rattle.works.proofs.turns.Tie as tie
-use Rattle.works.proofs.turns.Reads as reads
-use Rattle.works.proofs.turns.Lts as lts
-use Rattle.works.proofs.turn.Reads as turn-reads
 
 abbrev Inv-loop : tie.InvT-loop
 Inv-loop text heads₀ keys₀ marks₀ values₀ waiting₀ built-heads built-keys built-marks built-values built-waiting built buf₀ count
@@ -18,12 +15,6 @@ abbrev μ-loop : tie.MeasureT-loop
 μ-loop text heads₀ keys₀ marks₀ values₀ waiting₀ built-heads built-keys built-marks built-values built-waiting built buf₀ count
     last₀ left₀ heads keys marks values waiting buf last left =
     left
-
-loop-holds : tie.Need-loop-holds Inv-loop μ-loop
-loop-holds c = (refl, refl, refl, refl, refl, refl)
-
-turn-requires : tie.Need-turn-requires Inv-loop μ-loop
-turn-requires c κs = tt
 
 sub-left : tie.Need-sub-left Inv-loop μ-loop
 sub-left c =
@@ -51,42 +42,21 @@ loop-again c =
       omega (arith, at-loop .loop .inv .5, at-turn .turn .kept),
     )
 
-same-length : tie.Need-same-length Inv-loop μ-loop
-same-length c = omega (arith, c .before .loop .inv .0)
-
-same-length-2 : tie.Need-same-length-2 Inv-loop μ-loop
-same-length-2 c = omega (arith, c .before .loop .inv .1)
-
-same-length-3 : tie.Need-same-length-3 Inv-loop μ-loop
-same-length-3 c = omega (arith, c .before .loop .inv .2)
-
-same-length-4 : tie.Need-same-length-4 Inv-loop μ-loop
-same-length-4 c = omega (arith, c .before .loop .inv .3)
-
-same-length-5 : tie.Need-same-length-5 Inv-loop μ-loop
-same-length-5 c = omega (arith, c .before .loop .inv .4)
-
-same-length-6 : tie.Need-same-length-6 Inv-loop μ-loop
-same-length-6 c = omega (arith, c .before .loop .inv .5)
-
-returns : tie.Need-returns Inv-loop μ-loop
-returns c = tt
-
 pub turns-spec : {M : Type 1} → statement M
 turns-spec =
     tie.close
     (tie.spec
     Inv-loop
     μ-loop
-    loop-holds
-    turn-requires
+    (λ c. (refl, refl, refl, refl, refl, refl))
+    (λ c κs. tt)
     sub-left
     loop-less
     loop-again
-    same-length
-    same-length-2
-    same-length-3
-    same-length-4
-    same-length-5
-    same-length-6
-    returns)
+    (λ c. omega (arith, c .before .loop .inv .0))
+    (λ c. omega (arith, c .before .loop .inv .1))
+    (λ c. omega (arith, c .before .loop .inv .2))
+    (λ c. omega (arith, c .before .loop .inv .3))
+    (λ c. omega (arith, c .before .loop .inv .4))
+    (λ c. omega (arith, c .before .loop .inv .5))
+    (λ c. tt))

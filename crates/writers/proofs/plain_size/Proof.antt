@@ -9,40 +9,10 @@ use borrow.Author.Needs.{needs}
 use Rattle.writers.proofs.plain_size.Statement.{statement}
 use Rattle.writers.proofs.plain_size.Tie as tie
 
-enum-told : tie.Need-enum-told
-enum-told c = search needs
-
-enum-told-2 : tie.Need-enum-told-2
-enum-told-2 c = search needs
-
-enum-told-3 : tie.Need-enum-told-3
-enum-told-3 c = search needs
-
-enum-known-kind : tie.Need-enum-known-kind
-enum-known-kind c = search needs
-
-decimal-size-requires : tie.Need-decimal-size-requires
-decimal-size-requires c κs = search needs
-
-add-result : tie.Need-add-result
-add-result c = search needs
-
-enum-known-kind-2 : tie.Need-enum-known-kind-2
-enum-known-kind-2 c = search needs
-
 add-decimal-size : tie.Need-add-decimal-size
 add-decimal-size c =
     let at-pre = c .before .before .before in
     let b = neg-bound (c .before .kind2 .given .1) (at-pre .pre .1) in search needs
-
-decimal-size-requires-2 : tie.Need-decimal-size-requires-2
-decimal-size-requires-2 c κs = search needs
-
-add-result-2 : tie.Need-add-result-2
-add-result-2 c = search needs
-
-enum-known-kind-3 : tie.Need-enum-known-kind-3
-enum-known-kind-3 c = search needs
 
 mul-result : tie.Need-mul-result
 mul-result c =
@@ -53,15 +23,6 @@ add-result-3 : tie.Need-add-result-3
 add-result-3 c =
     let at-pre = c .before .before .before in
     let b = string-bound (c .before .kind3 .given .1) (at-pre .pre .1) in search needs
-
-returns : tie.Need-returns
-returns c = sized _ (null-text _ (c .enum-told .given .1)) refl (omega arith)
-
-returns-2 : tie.Need-returns-2
-returns-2 c = sized _ (true-text _ (c .enum-told2 .given .1)) refl (omega arith)
-
-returns-3 : tie.Need-returns-3
-returns-3 c = sized _ (false-text _ (c .enum-told3 .given .1)) refl (omega arith)
 
 returns-4 : tie.Need-returns-4
 returns-4 c = sized _ (nonneg-text _ (c .before .before .kind .given .1)) (omega (arith, c .decimal-size .ensures .0)) (omega arith)
@@ -78,22 +39,22 @@ pub plain-size-spec : {M : Type 1} → statement M
 plain-size-spec =
     tie.close
     (tie.spec
-    enum-told
-    enum-told-2
-    enum-told-3
-    enum-known-kind
-    decimal-size-requires
-    add-result
-    enum-known-kind-2
+    (λ c. search needs)
+    (λ c. search needs)
+    (λ c. search needs)
+    (λ c. search needs)
+    (λ c κs. search needs)
+    (λ c. search needs)
+    (λ c. search needs)
     add-decimal-size
-    decimal-size-requires-2
-    add-result-2
-    enum-known-kind-3
+    (λ c κs. search needs)
+    (λ c. search needs)
+    (λ c. search needs)
     mul-result
     add-result-3
-    returns
-    returns-2
-    returns-3
+    (λ c. sized _ (null-text _ (c .enum-told .given .1)) refl (omega arith))
+    (λ c. sized _ (true-text _ (c .enum-told2 .given .1)) refl (omega arith))
+    (λ c. sized _ (false-text _ (c .enum-told3 .given .1)) refl (omega arith))
     returns-4
     returns-5
     returns-6)

@@ -16,12 +16,6 @@ Inv-loop buf₀ t c n₀ i₀ t7 buf n i = Counting c buf₀ n₀ buf n i
 abbrev μ-loop : tie.MeasureT-loop
 μ-loop buf₀ t c n₀ i₀ t7 buf n i = 8 - i
 
-array-read-wide : tie.Need-array-read-wide Inv-loop μ-loop
-array-read-wide c = search needs
-
-wide-requires : tie.Need-wide-requires Inv-loop μ-loop
-wide-requires c κs = search needs
-
 put-decimal-requires : tie.Need-put-decimal-requires Inv-loop μ-loop
 put-decimal-requires c κs =
     let at-pre = c .before .before .before .before in (
@@ -30,27 +24,12 @@ put-decimal-requires c κs =
           (counters-text (at-pre .args .counters .at) (search needs) (c .wide .ensures)) (at-pre .pre .1),
     )
 
-loop-holds : tie.Need-loop-holds Inv-loop μ-loop
-loop-holds c = counting-first _ _ _
-
-slice-aggregate-then-text : tie.Need-slice-aggregate-then-text Inv-loop μ-loop
-slice-aggregate-then-text c = search needs
-
 then-text-requires : tie.Need-then-text-requires Inv-loop μ-loop
 then-text-requires c κs = room (ascii ",") _ (comes (c .before .before .before .loop .inv) (search needs)
     (c .before .before .loop-test .taken) refl (first (c .before .before .before .before .before .before .put-decimal .ensures)
     (counters-text (c .before .before .before .before .before .before .before .before .before .before .before .args .counters .at)
     (search needs) (c .before .before .before .before .before .before .before .wide .ensures))
     (c .before .before .before .before .before .before .before .before .before .before .before .pre .1)))
-
-mul-wide : tie.Need-mul-wide Inv-loop μ-loop
-mul-wide c = search needs
-
-array-read-wide-2 : tie.Need-array-read-wide-2 Inv-loop μ-loop
-array-read-wide-2 c = search needs
-
-wide-requires-2 : tie.Need-wide-requires-2 Inv-loop μ-loop
-wide-requires-2 c κs = search needs
 
 then-decimal-requires : tie.Need-then-decimal-requires Inv-loop μ-loop
 then-decimal-requires c κs = (
@@ -67,12 +46,6 @@ then-decimal-requires c κs = (
       (c .before .before .before .before .before .before .before .before .before .before .before .before .before .before .before .before
       .pre .1)))),
 )
-
-add-i : tie.Need-add-i Inv-loop μ-loop
-add-i c = search needs
-
-loop-less : tie.Need-loop-less Inv-loop μ-loop
-loop-less c = search needs
 
 loop-again : tie.Need-loop-again Inv-loop μ-loop
 loop-again c = counting-more (c .before .before .before .before .before .before .before .before .before .before .before .loop .inv)
@@ -103,18 +76,18 @@ put-counters-spec =
     (tie.spec
     Inv-loop
     μ-loop
-    array-read-wide
-    wide-requires
+    (λ c. search needs)
+    (λ c κs. search needs)
     put-decimal-requires
-    loop-holds
-    slice-aggregate-then-text
+    (λ c. counting-first _ _ _)
+    (λ c. search needs)
     then-text-requires
-    mul-wide
-    array-read-wide-2
-    wide-requires-2
+    (λ c. search needs)
+    (λ c. search needs)
+    (λ c κs. search needs)
     then-decimal-requires
-    add-i
-    loop-less
+    (λ c. search needs)
+    (λ c. search needs)
     loop-again
     same-length
     returns)

@@ -14,15 +14,6 @@ Inv-loop buf₀ words n i₀ buf i = Hexing words n buf₀ buf i
 abbrev μ-loop : tie.MeasureT-loop
 μ-loop buf₀ words n i₀ buf i = n - i
 
-loop-holds : tie.Need-loop-holds Inv-loop μ-loop
-loop-holds c = hexing-none _ _ _
-
-byte-of-requires : tie.Need-byte-of-requires Inv-loop μ-loop
-byte-of-requires c κs = search needs
-
-hex-digit-requires : tie.Need-hex-digit-requires Inv-loop μ-loop
-hex-digit-requires c κs = search needs
-
 mul-buf : tie.Need-mul-buf Inv-loop μ-loop
 mul-buf c =
     let at-start = c .before .before .before .before .before .before in
@@ -33,9 +24,6 @@ slice-write-buf c =
     let at-loop = c .before .before .before in
     let at-start = at-loop .before .before .before in
     omega (arith, size-hex (at-start .args .words .now) (at-start .args .n), at-loop .loop .inv .long)
-
-hex-digit-requires-2 : tie.Need-hex-digit-requires-2 Inv-loop μ-loop
-hex-digit-requires-2 c κs = search needs
 
 mul-buf-2 : tie.Need-mul-buf-2 Inv-loop μ-loop
 mul-buf-2 c =
@@ -59,12 +47,6 @@ slice-write-buf-2 c =
       at-loop .loop .inv .long,
     )
 
-add-i : tie.Need-add-i Inv-loop μ-loop
-add-i c = search needs
-
-loop-less : tie.Need-loop-less Inv-loop μ-loop
-loop-less c = search needs
-
 loop-again : tie.Need-loop-again Inv-loop μ-loop
 loop-again c =
     let at-byte-of = c .before .before in
@@ -79,30 +61,24 @@ mul-result c =
     let at-start = c .before .before .before .before in
     record { fits = omega (arith, size-hex (at-start .args .words .now) (at-start .args .n), c .before .loop .inv .most) }
 
-same-length : tie.Need-same-length Inv-loop μ-loop
-same-length c = c .before .loop .inv .long
-
-returns : tie.Need-returns Inv-loop μ-loop
-returns c = hexing-all (c .before .loop .inv) (c .loop-test .left)
-
 pub put-hex-spec : {M : Type 1} → statement M
 put-hex-spec =
     tie.close
     (tie.spec
     Inv-loop
     μ-loop
-    loop-holds
-    byte-of-requires
-    hex-digit-requires
+    (λ c. hexing-none _ _ _)
+    (λ c κs. search needs)
+    (λ c κs. search needs)
     mul-buf
     slice-write-buf
-    hex-digit-requires-2
+    (λ c κs. search needs)
     mul-buf-2
     add-buf
     slice-write-buf-2
-    add-i
-    loop-less
+    (λ c. search needs)
+    (λ c. search needs)
     loop-again
     mul-result
-    same-length
-    returns)
+    (λ c. c .before .loop .inv .long)
+    (λ c. hexing-all (c .before .loop .inv) (c .loop-test .left)))

@@ -15,17 +15,11 @@ put-decimal-requires c κs = (
       (c .before .before .pre .1),
 )
 
-slice-aggregate-then-text : tie.Need-slice-aggregate-then-text
-slice-aggregate-then-text c = search needs
-
 then-text-requires : tie.Need-then-text-requires
 then-text-requires c κs =
     let at-put-decimal = c .before .before .before .before in
     let at-pre = at-put-decimal .before .before .before in
     room (ascii ".") _ (first (at-put-decimal .put-decimal .ensures) (id-text _) (at-pre .pre .1))
-
-add-then-decimal : tie.Need-add-then-decimal
-add-then-decimal c = search needs
 
 then-decimal-requires : tie.Need-then-decimal-requires
 then-decimal-requires c κs =
@@ -36,9 +30,6 @@ then-decimal-requires c κs =
       last-room (next (at-then-text .then-text .ensures) _
           (first (at-put-decimal .put-decimal .ensures) (id-text _) (at-pre .pre .1))),
     )
-
-same-length : tie.Need-same-length
-same-length c = search needs
 
 returns : tie.Need-returns
 returns c =
@@ -54,9 +45,9 @@ put-id-spec =
     tie.close
     (tie.spec
     put-decimal-requires
-    slice-aggregate-then-text
+    (λ c. search needs)
     then-text-requires
-    add-then-decimal
+    (λ c. search needs)
     then-decimal-requires
-    same-length
+    (λ c. search needs)
     returns)

@@ -9,23 +9,11 @@ use borrow.Author.Needs.{needs}
 use Rattle.writers.proofs.put_plain.Statement.{statement}
 use Rattle.writers.proofs.put_plain.Tie as tie
 
-enum-told : tie.Need-enum-told
-enum-told c = search needs
-
-slice-aggregate-put-text : tie.Need-slice-aggregate-put-text
-slice-aggregate-put-text c = search needs
-
 put-text-requires : tie.Need-put-text-requires
 put-text-requires c κs =
     let at-enum-told = c .before .before in
     let at-start = at-enum-told .before .before .before in
     first-room (ascii "n") _ (at-start .args .buf .now) (null-text _ (at-enum-told .enum-told .given .1)) (at-start .pre .2)
-
-enum-told-2 : tie.Need-enum-told-2
-enum-told-2 c = search needs
-
-slice-aggregate-put-text-2 : tie.Need-slice-aggregate-put-text-2
-slice-aggregate-put-text-2 c = search needs
 
 put-text-requires-2 : tie.Need-put-text-requires-2
 put-text-requires-2 c κs =
@@ -33,23 +21,11 @@ put-text-requires-2 c κs =
     let at-start = at-enum-told2 .before .before .before in
     first-room (ascii "t") _ (at-start .args .buf .now) (true-text _ (at-enum-told2 .enum-told2 .given .1)) (at-start .pre .2)
 
-enum-told-3 : tie.Need-enum-told-3
-enum-told-3 c = search needs
-
-slice-aggregate-put-text-3 : tie.Need-slice-aggregate-put-text-3
-slice-aggregate-put-text-3 c = search needs
-
 put-text-requires-3 : tie.Need-put-text-requires-3
 put-text-requires-3 c κs =
     let at-enum-told3 = c .before .before in
     let at-start = at-enum-told3 .before .before .before in
     first-room (ascii "f") _ (at-start .args .buf .now) (false-text _ (at-enum-told3 .enum-told3 .given .1)) (at-start .pre .2)
-
-enum-known-kind : tie.Need-enum-known-kind
-enum-known-kind c = search needs
-
-slice-aggregate-put-text-4 : tie.Need-slice-aggregate-put-text-4
-slice-aggregate-put-text-4 c = search needs
 
 put-text-requires-4 : tie.Need-put-text-requires-4
 put-text-requires-4 c κs =
@@ -66,12 +42,6 @@ then-decimal-requires c κs =
       last-room (first (at-put-text4 .put-text4 .ensures) (nonneg-text _ (at-kind .kind .given .1))
           (at-pre .pre .2)),
     )
-
-enum-known-kind-2 : tie.Need-enum-known-kind-2
-enum-known-kind-2 c = search needs
-
-slice-aggregate-put-text-5 : tie.Need-slice-aggregate-put-text-5
-slice-aggregate-put-text-5 c = search needs
 
 put-text-requires-5 : tie.Need-put-text-requires-5
 put-text-requires-5 c κs =
@@ -92,20 +62,11 @@ then-decimal-requires-2 c κs =
     let at-pre = at-kind2 .before .before .before in
     (at-pre .pre .0, last-room (first (at-put-text5 .put-text5 .ensures) (neg-text _ (at-kind2 .kind2 .given .1)) (at-pre .pre .2)))
 
-enum-known-kind-3 : tie.Need-enum-known-kind-3
-enum-known-kind-3 c = search needs
-
-slice-aggregate-put-text-6 : tie.Need-slice-aggregate-put-text-6
-slice-aggregate-put-text-6 c = search needs
-
 put-text-requires-6 : tie.Need-put-text-requires-6
 put-text-requires-6 c κs =
     let at-kind3 = c .before .before .before in
     let at-start = at-kind3 .before .before .before in
     first-room (ascii "s") _ (at-start .args .buf .now) (string-text _ (at-kind3 .kind3 .given .1)) (at-start .pre .2)
-
-slice-aggregate-then-hex : tie.Need-slice-aggregate-then-hex
-slice-aggregate-then-hex c = search needs
 
 then-hex-requires : tie.Need-then-hex-requires
 then-hex-requires c κs =
@@ -117,17 +78,11 @@ then-hex-requires c κs =
           (first (at-put-text6 .put-text6 .ensures) (string-text _ (at-kind3 .kind3 .given .1)) (at-pre .pre .2)),
     )
 
-same-length : tie.Need-same-length
-same-length c = search needs
-
 returns : tie.Need-returns
 returns c =
     let at-put-text = c .before .before in
     let at-enum-told = at-put-text .before .before .before in
     wrote-as (sym (null-text _ (at-enum-told .enum-told .given .1))) (at-put-text .put-text .ensures)
-
-same-length-2 : tie.Need-same-length-2
-same-length-2 c = search needs
 
 returns-2 : tie.Need-returns-2
 returns-2 c =
@@ -135,17 +90,11 @@ returns-2 c =
     let at-enum-told2 = at-put-text2 .before .before .before in
     wrote-as (sym (true-text _ (at-enum-told2 .enum-told2 .given .1))) (at-put-text2 .put-text2 .ensures)
 
-same-length-3 : tie.Need-same-length-3
-same-length-3 c = search needs
-
 returns-3 : tie.Need-returns-3
 returns-3 c =
     let at-put-text3 = c .before .before in
     let at-enum-told3 = at-put-text3 .before .before .before in
     wrote-as (sym (false-text _ (at-enum-told3 .enum-told3 .given .1))) (at-put-text3 .put-text3 .ensures)
-
-same-length-4 : tie.Need-same-length-4
-same-length-4 c = search needs
 
 returns-4 : tie.Need-returns-4
 returns-4 c =
@@ -156,9 +105,6 @@ returns-4 c =
     last (at-then-decimal .then-decimal .ensures)
     (first (at-put-text4 .put-text4 .ensures) (nonneg-text _ (at-kind .kind .given .1)) (at-pre .pre .2))
 
-same-length-5 : tie.Need-same-length-5
-same-length-5 c = search needs
-
 returns-5 : tie.Need-returns-5
 returns-5 c =
     let at-then-decimal2 = c .before .before in
@@ -167,9 +113,6 @@ returns-5 c =
     let at-pre = at-kind2 .before .before .before in
     last (at-then-decimal2 .then-decimal2 .ensures)
     (first (at-put-text5 .put-text5 .ensures) (neg-text _ (at-kind2 .kind2 .given .1)) (at-pre .pre .2))
-
-same-length-6 : tie.Need-same-length-6
-same-length-6 c = search needs
 
 returns-6 : tie.Need-returns-6
 returns-6 c =
@@ -184,38 +127,38 @@ pub put-plain-spec : {M : Type 1} → statement M
 put-plain-spec =
     tie.close
     (tie.spec
-    enum-told
-    slice-aggregate-put-text
+    (λ c. search needs)
+    (λ c. search needs)
     put-text-requires
-    enum-told-2
-    slice-aggregate-put-text-2
+    (λ c. search needs)
+    (λ c. search needs)
     put-text-requires-2
-    enum-told-3
-    slice-aggregate-put-text-3
+    (λ c. search needs)
+    (λ c. search needs)
     put-text-requires-3
-    enum-known-kind
-    slice-aggregate-put-text-4
+    (λ c. search needs)
+    (λ c. search needs)
     put-text-requires-4
     then-decimal-requires
-    enum-known-kind-2
-    slice-aggregate-put-text-5
+    (λ c. search needs)
+    (λ c. search needs)
     put-text-requires-5
     add-then-decimal
     then-decimal-requires-2
-    enum-known-kind-3
-    slice-aggregate-put-text-6
+    (λ c. search needs)
+    (λ c. search needs)
     put-text-requires-6
-    slice-aggregate-then-hex
+    (λ c. search needs)
     then-hex-requires
-    same-length
+    (λ c. search needs)
     returns
-    same-length-2
+    (λ c. search needs)
     returns-2
-    same-length-3
+    (λ c. search needs)
     returns-3
-    same-length-4
+    (λ c. search needs)
     returns-4
-    same-length-5
+    (λ c. search needs)
     returns-5
-    same-length-6
+    (λ c. search needs)
     returns-6)

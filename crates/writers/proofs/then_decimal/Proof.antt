@@ -5,24 +5,6 @@ use borrow.Author.Needs.{needs}
 use Rattle.writers.proofs.then_decimal.Statement.{statement}
 use Rattle.writers.proofs.then_decimal.Tie as tie
 
-sub-put-decimal : tie.Need-sub-put-decimal
-sub-put-decimal c = search needs
-
-part-put-decimal-start : tie.Need-part-put-decimal-start
-part-put-decimal-start c = search needs
-
-part-put-decimal-end : tie.Need-part-put-decimal-end
-part-put-decimal-end c = search needs
-
-put-decimal-requires : tie.Need-put-decimal-requires
-put-decimal-requires c κs = search needs
-
-add-result : tie.Need-add-result
-add-result c = search needs
-
-same-length : tie.Need-same-length
-same-length c = search needs
-
 returns : tie.Need-returns
 returns c =
     let at-put-decimal = c .before .before in
@@ -33,10 +15,10 @@ pub then-decimal-spec : {M : Type 1} → statement M
 then-decimal-spec =
     tie.close
     (tie.spec
-    sub-put-decimal
-    part-put-decimal-start
-    part-put-decimal-end
-    put-decimal-requires
-    add-result
-    same-length
+    (λ c. search needs)
+    (λ c. search needs)
+    (λ c. search needs)
+    (λ c κs. search needs)
+    (λ c. search needs)
+    (λ c. search needs)
     returns)

@@ -5,24 +5,6 @@ use borrow.Author.Needs.{needs}
 use Rattle.writers.proofs.then_id.Statement.{statement}
 use Rattle.writers.proofs.then_id.Tie as tie
 
-sub-put-id : tie.Need-sub-put-id
-sub-put-id c = search needs
-
-part-put-id-start : tie.Need-part-put-id-start
-part-put-id-start c = search needs
-
-part-put-id-end : tie.Need-part-put-id-end
-part-put-id-end c = search needs
-
-put-id-requires : tie.Need-put-id-requires
-put-id-requires c κs = search needs
-
-add-result : tie.Need-add-result
-add-result c = search needs
-
-same-length : tie.Need-same-length
-same-length c = search needs
-
 returns : tie.Need-returns
 returns c =
     let at-put-id = c .before .before in
@@ -33,10 +15,10 @@ pub then-id-spec : {M : Type 1} → statement M
 then-id-spec =
     tie.close
     (tie.spec
-    sub-put-id
-    part-put-id-start
-    part-put-id-end
-    put-id-requires
-    add-result
-    same-length
+    (λ c. search needs)
+    (λ c. search needs)
+    (λ c. search needs)
+    (λ c κs. search needs)
+    (λ c. search needs)
+    (λ c. search needs)
     returns)

@@ -5,24 +5,6 @@ use borrow.Author.Needs.{needs}
 use Rattle.writers.proofs.then_plain.Statement.{statement}
 use Rattle.writers.proofs.then_plain.Tie as tie
 
-sub-put-plain : tie.Need-sub-put-plain
-sub-put-plain c = search needs
-
-part-put-plain-start : tie.Need-part-put-plain-start
-part-put-plain-start c = search needs
-
-part-put-plain-end : tie.Need-part-put-plain-end
-part-put-plain-end c = search needs
-
-put-plain-requires : tie.Need-put-plain-requires
-put-plain-requires c κs = search needs
-
-add-result : tie.Need-add-result
-add-result c = search needs
-
-same-length : tie.Need-same-length
-same-length c = search needs
-
 returns : tie.Need-returns
 returns c =
     let at-put-plain = c .before .before in
@@ -33,10 +15,10 @@ pub then-plain-spec : {M : Type 1} → statement M
 then-plain-spec =
     tie.close
     (tie.spec
-    sub-put-plain
-    part-put-plain-start
-    part-put-plain-end
-    put-plain-requires
-    add-result
-    same-length
+    (λ c. search needs)
+    (λ c. search needs)
+    (λ c. search needs)
+    (λ c κs. search needs)
+    (λ c. search needs)
+    (λ c. search needs)
     returns)

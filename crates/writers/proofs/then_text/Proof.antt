@@ -5,24 +5,6 @@ use borrow.Author.Needs.{needs}
 use Rattle.writers.proofs.then_text.Statement.{statement}
 use Rattle.writers.proofs.then_text.Tie as tie
 
-sub-put-text : tie.Need-sub-put-text
-sub-put-text c = search needs
-
-part-put-text-start : tie.Need-part-put-text-start
-part-put-text-start c = search needs
-
-part-put-text-end : tie.Need-part-put-text-end
-part-put-text-end c = search needs
-
-put-text-requires : tie.Need-put-text-requires
-put-text-requires c κs = search needs
-
-add-result : tie.Need-add-result
-add-result c = search needs
-
-same-length : tie.Need-same-length
-same-length c = search needs
-
 returns : tie.Need-returns
 returns c =
     let at-put-text = c .before .before in
@@ -33,10 +15,10 @@ pub then-text-spec : {M : Type 1} → statement M
 then-text-spec =
     tie.close
     (tie.spec
-    sub-put-text
-    part-put-text-start
-    part-put-text-end
-    put-text-requires
-    add-result
-    same-length
+    (λ c. search needs)
+    (λ c. search needs)
+    (λ c. search needs)
+    (λ c κs. search needs)
+    (λ c. search needs)
+    (λ c. search needs)
     returns)

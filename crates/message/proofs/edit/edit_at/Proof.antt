@@ -8,21 +8,6 @@ use borrow.Author.Needs.{needs}
 use Rattle.message.proofs.edit.edit_at.Statement.{statement}
 use Rattle.message.proofs.edit.edit_at.Tie as tie
 
-slice-aggregate-take-text : tie.Need-slice-aggregate-take-text
-slice-aggregate-take-text c = search needs
-
-take-text-requires : tie.Need-take-text-requires
-take-text-requires c κs = tt
-
-enum-known-n : tie.Need-enum-known-n
-enum-known-n c = search needs
-
-enum-told : tie.Need-enum-told
-enum-told c = search needs
-
-no-edit-requires : tie.Need-no-edit-requires
-no-edit-requires c κs = tt
-
 returns : tie.Need-returns
 returns c =
     let at-take-text = c .before .before .before in
@@ -34,9 +19,6 @@ take-way-requires c κs =
     let at-pre = c .before .before .before .before .before .before in
     at-pre .pre
 
-no-edit-requires-2 : tie.Need-no-edit-requires-2
-no-edit-requires-2 c κs = tt
-
 returns-2 : tie.Need-returns-2
 returns-2 c =
     let at-take-way = c .before .before .before in
@@ -45,18 +27,6 @@ returns-2 c =
     refused _ (c .no-edit2 .result) (c .no-edit2 .ensures)
     (no-way _ _ _ (text-took _ (at-n .n .given .1) (at-take-text .take-text .ensures)) (at-take-way .take-way .result)
     (not-true _ (c .before .if1 .taken)) (at-take-way .take-way .ensures))
-
-take-byte-requires : tie.Need-take-byte-requires
-take-byte-requires c κs = tt
-
-enum-known-o : tie.Need-enum-known-o
-enum-known-o c = search needs
-
-enum-told-2 : tie.Need-enum-told-2
-enum-told-2 c = search needs
-
-no-edit-requires-3 : tie.Need-no-edit-requires-3
-no-edit-requires-3 c κs = tt
 
 returns-3 : tie.Need-returns-3
 returns-3 c =
@@ -75,9 +45,6 @@ take-deed-requires c κs =
     let at-pre = c .before .before .before .before .before .before .before .before .before .before .before .before .before in
     at-pre .pre
 
-no-edit-requires-4 : tie.Need-no-edit-requires-4
-no-edit-requires-4 c κs = tt
-
 returns-4 : tie.Need-returns-4
 returns-4 c =
     let at-take-deed = c .before .before .before in
@@ -92,9 +59,6 @@ returns-4 c =
     (not-false _ (at-if1 .if1 .left)) (at-take-way .take-way .ensures) _
     (text-took _ (at-o .o .given .1) (at-take-byte .take-byte .ensures)) (at-take-deed .take-deed .result)
     (not-true _ (c .before .if2 .taken)) (at-take-deed .take-deed .ensures))
-
-no-edit-requires-5 : tie.Need-no-edit-requires-5
-no-edit-requires-5 c κs = tt
 
 returns-5 : tie.Need-returns-5
 returns-5 c =
@@ -111,12 +75,6 @@ returns-5 c =
     (not-false _ (at-if1 .if1 .left)) (at-take-way .take-way .ensures) _
     (text-took _ (at-o .o .given .1) (at-take-byte .take-byte .ensures)) (at-take-deed .take-deed .result)
     (not-false _ (at-if2 .if2 .left)) (at-take-deed .take-deed .ensures) (c .before .if3 .taken))
-
-may-requires : tie.Need-may-requires
-may-requires c κs = tt
-
-no-edit-requires-6 : tie.Need-no-edit-requires-6
-no-edit-requires-6 c κs = tt
 
 returns-6 : tie.Need-returns-6
 returns-6 c =
@@ -159,26 +117,26 @@ pub edit-at-spec : {M : Type 1} → statement M
 edit-at-spec =
     tie.close
     (tie.spec
-    slice-aggregate-take-text
-    take-text-requires
-    enum-known-n
-    enum-told
-    no-edit-requires
+    (λ c. search needs)
+    (λ c κs. tt)
+    (λ c. search needs)
+    (λ c. search needs)
+    (λ c κs. tt)
     returns
     take-way-requires
-    no-edit-requires-2
+    (λ c κs. tt)
     returns-2
-    take-byte-requires
-    enum-known-o
-    enum-told-2
-    no-edit-requires-3
+    (λ c κs. tt)
+    (λ c. search needs)
+    (λ c. search needs)
+    (λ c κs. tt)
     returns-3
     take-deed-requires
-    no-edit-requires-4
+    (λ c κs. tt)
     returns-4
-    no-edit-requires-5
+    (λ c κs. tt)
     returns-5
-    may-requires
-    no-edit-requires-6
+    (λ c κs. tt)
+    (λ c κs. tt)
     returns-6
     returns-7)

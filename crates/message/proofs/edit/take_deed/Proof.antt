@@ -6,15 +6,6 @@ use borrow.Author.Needs.{needs}
 use Rattle.message.proofs.edit.take_deed.Statement.{statement}
 use Rattle.message.proofs.edit.take_deed.Tie as tie
 
-slice-aggregate-take-text : tie.Need-slice-aggregate-take-text
-slice-aggregate-take-text c = search needs
-
-take-text-requires : tie.Need-take-text-requires
-take-text-requires c κs = tt
-
-enum-known-n : tie.Need-enum-known-n
-enum-known-n c = search needs
-
 take-value-line-requires : tie.Need-take-value-line-requires
 take-value-line-requires c κs =
     let at-pre = c .before .before .before .before .before .before in
@@ -27,18 +18,6 @@ returns c =
     an-assign _ _ _ (text-took _ (at-n .n .given .1) (at-take-text .take-text .ensures)) (c .before .take-value-line .result)
     (c .before .take-value-line .ensures)
 
-enum-told : tie.Need-enum-told
-enum-told c = search needs
-
-slice-aggregate-take-text-2 : tie.Need-slice-aggregate-take-text-2
-slice-aggregate-take-text-2 c = search needs
-
-take-text-requires-2 : tie.Need-take-text-requires-2
-take-text-requires-2 c κs = tt
-
-enum-known-n-2 : tie.Need-enum-known-n-2
-enum-known-n-2 c = search needs
-
 take-value-line-requires-2 : tie.Need-take-value-line-requires-2
 take-value-line-requires-2 c κs =
     let at-pre = c .before .before .before .before .before .before .before .before .before .before in
@@ -50,21 +29,6 @@ returns-2 c =
     let at-take-text2 = at-n2 .before .before in
     an-insert _ _ _ (text-took _ (at-n2 .n2 .given .1) (at-take-text2 .take-text2 .ensures)) (c .before .take-value-line2 .result)
     (c .before .take-value-line2 .ensures)
-
-enum-told-2 : tie.Need-enum-told-2
-enum-told-2 c = search needs
-
-slice-aggregate-take-text-3 : tie.Need-slice-aggregate-take-text-3
-slice-aggregate-take-text-3 c = search needs
-
-take-text-requires-3 : tie.Need-take-text-requires-3
-take-text-requires-3 c κs = tt
-
-enum-known-next : tie.Need-enum-known-next
-enum-known-next c = search needs
-
-enum-told-3 : tie.Need-enum-told-3
-enum-told-3 c = search needs
 
 returns-3 : tie.Need-returns-3
 returns-3 c =
@@ -86,21 +50,21 @@ pub take-deed-spec : {M : Type 1} → statement M
 take-deed-spec =
     tie.close
     (tie.spec
-    slice-aggregate-take-text
-    take-text-requires
-    enum-known-n
+    (λ c. search needs)
+    (λ c κs. tt)
+    (λ c. search needs)
     take-value-line-requires
     returns
-    enum-told
-    slice-aggregate-take-text-2
-    take-text-requires-2
-    enum-known-n-2
+    (λ c. search needs)
+    (λ c. search needs)
+    (λ c κs. tt)
+    (λ c. search needs)
     take-value-line-requires-2
     returns-2
-    enum-told-2
-    slice-aggregate-take-text-3
-    take-text-requires-3
-    enum-known-next
-    enum-told-3
+    (λ c. search needs)
+    (λ c. search needs)
+    (λ c κs. tt)
+    (λ c. search needs)
+    (λ c. search needs)
     returns-3
     returns-4)

@@ -7,23 +7,8 @@ use borrow.Author.Needs.{needs}
 use Rattle.message.proofs.edit.take_value_line.Statement.{statement}
 use Rattle.message.proofs.edit.take_value_line.Tie as tie
 
-take-assigned-requires : tie.Need-take-assigned-requires
-take-assigned-requires c κs = c .before .pre
-
 returns : tie.Need-returns
 returns c = no-value _ _ (c .before .before .take-assigned .result) (not-true _ (c .if1 .taken)) (c .before .before .take-assigned .ensures)
-
-take-byte-requires : tie.Need-take-byte-requires
-take-byte-requires c κs = tt
-
-enum-known-next : tie.Need-enum-known-next
-enum-known-next c = search needs
-
-enum-told : tie.Need-enum-told
-enum-told c = search needs
-
-ended-requires : tie.Need-ended-requires
-ended-requires c κs = tt
 
 returns-2 : tie.Need-returns-2
 returns-2 c =
@@ -33,9 +18,6 @@ returns-2 c =
     no-feed _ _ (at-take-assigned .take-assigned .result) (not-false _ (at-if1 .if1 .left))
     (at-take-assigned .take-assigned .ensures) (text-none _ (c .before .enum-told .given .1) (at-take-byte .take-byte .ensures)) _
     (c .ended .result) (c .ended .ensures)
-
-ended-requires-2 : tie.Need-ended-requires-2
-ended-requires-2 c κs = tt
 
 returns-3 : tie.Need-returns-3
 returns-3 c =
@@ -51,12 +33,12 @@ pub take-value-line-spec : {M : Type 1} → statement M
 take-value-line-spec =
     tie.close
     (tie.spec
-    take-assigned-requires
+    (λ c κs. c .before .pre)
     returns
-    take-byte-requires
-    enum-known-next
-    enum-told
-    ended-requires
+    (λ c κs. tt)
+    (λ c. search needs)
+    (λ c. search needs)
+    (λ c κs. tt)
     returns-2
-    ended-requires-2
+    (λ c κs. tt)
     returns-3)

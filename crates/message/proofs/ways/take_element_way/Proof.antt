@@ -8,31 +8,10 @@ use lib.Seq.{length-take-le}
 use Rattle.message.proofs.ways.take_element_way.Statement.{statement}
 use Rattle.message.proofs.ways.take_element_way.Tie as tie
 
-no-place-requires : tie.Need-no-place-requires
-no-place-requires c κs = tt
-
-returns : tie.Need-returns
-returns c = no-bytes _ (c .no-place .result) (c .before .if1 .taken) (c .no-place .ensures)
-
-sub-last : tie.Need-sub-last
-sub-last c = search needs
-
-shared-slice-read-if2 : tie.Need-shared-slice-read-if2
-shared-slice-read-if2 c = search needs
-
-no-place-requires-2 : tie.Need-no-place-requires-2
-no-place-requires-2 c κs = tt
-
 returns-2 : tie.Need-returns-2
 returns-2 c =
     let at-if1 = c .before .before .before in
     no-bracket _ (at-if1 .if1 .left) (c .no-place2 .result) (c .before .if2 .taken) (c .no-place2 .ensures)
-
-slice-aggregate-take-place-way : tie.Need-slice-aggregate-take-place-way
-slice-aggregate-take-place-way c = sym (length-take-le _ _ (omega arith))
-
-take-place-way-requires : tie.Need-take-place-way-requires
-take-place-way-requires c κs = tt
 
 returns-3 : tie.Need-returns-3
 returns-3 c =
@@ -44,12 +23,12 @@ pub take-element-way-spec : {M : Type 1} → statement M
 take-element-way-spec =
     tie.close
     (tie.spec
-    no-place-requires
-    returns
-    sub-last
-    shared-slice-read-if2
-    no-place-requires-2
+    (λ c κs. tt)
+    (λ c. no-bytes _ (c .no-place .result) (c .before .if1 .taken) (c .no-place .ensures))
+    (λ c. search needs)
+    (λ c. search needs)
+    (λ c κs. tt)
     returns-2
-    slice-aggregate-take-place-way
-    take-place-way-requires
+    (λ c. sym (length-take-le _ _ (omega arith)))
+    (λ c κs. tt)
     returns-3)

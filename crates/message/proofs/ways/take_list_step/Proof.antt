@@ -8,25 +8,10 @@ use borrow.Author.Needs.{needs}
 use Rattle.message.proofs.ways.take_list_step.Statement.{statement}
 use Rattle.message.proofs.ways.take_list_step.Tie as tie
 
-take-byte-requires : tie.Need-take-byte-requires
-take-byte-requires c κs = tt
-
-enum-known-next : tie.Need-enum-known-next
-enum-known-next c = search needs
-
-enum-told : tie.Need-enum-told
-enum-told c = search needs
-
 take-id-requires : tie.Need-take-id-requires
 take-id-requires c κs =
     let at-pre = c .before .before .before .before in
     at-pre .pre
-
-enum-known-id : tie.Need-enum-known-id
-enum-known-id c = search needs
-
-enum-told-2 : tie.Need-enum-told-2
-enum-told-2 c = search needs
 
 returns : tie.Need-returns
 returns c =
@@ -55,12 +40,12 @@ pub take-list-step-spec : {M : Type 1} → statement M
 take-list-step-spec =
     tie.close
     (tie.spec
-    take-byte-requires
-    enum-known-next
-    enum-told
+    (λ c κs. tt)
+    (λ c. search needs)
+    (λ c. search needs)
     take-id-requires
-    enum-known-id
-    enum-told-2
+    (λ c. search needs)
+    (λ c. search needs)
     returns
     returns-2
     returns-3)

@@ -5,21 +5,6 @@ use borrow.Author.Needs.{needs}
 use Rattle.message.proofs.ways.take_step.Statement.{statement}
 use Rattle.message.proofs.ways.take_step.Tie as tie
 
-returns : tie.Need-returns
-returns c = finished-end _ _ (c .if1 .taken)
-
-shared-slice-read-b : tie.Need-shared-slice-read-b
-shared-slice-read-b c = search needs
-
-returns-2 : tie.Need-returns-2
-returns-2 c = finished-feed _ _ (c .before .before .if1 .left) (c .if2 .taken)
-
-add-n : tie.Need-add-n
-add-n c = search needs
-
-take-key-step-requires : tie.Need-take-key-step-requires
-take-key-step-requires c κs = tt
-
 returns-3 : tie.Need-returns-3
 returns-3 c =
     let at-if1 = c .before .before .before .before in
@@ -45,11 +30,11 @@ pub take-step-spec : {M : Type 1} → statement M
 take-step-spec =
     tie.close
     (tie.spec
-    returns
-    shared-slice-read-b
-    returns-2
-    add-n
-    take-key-step-requires
+    (λ c. finished-end _ _ (c .if1 .taken))
+    (λ c. search needs)
+    (λ c. finished-feed _ _ (c .before .before .if1 .left) (c .if2 .taken))
+    (λ c. search needs)
+    (λ c κs. tt)
     returns-3
     take-list-step-requires
     returns-4

@@ -16,26 +16,11 @@ Inv-loop s a t keys₀ last₀ n₀ i₀ keys last n i = State s a keys last n i
 abbrev μ-loop : tie.MeasureT-loop
 μ-loop s a t keys₀ last₀ n₀ i₀ keys last n i = 9 - i
 
-take-key-requires : tie.Need-take-key-requires Inv-loop μ-loop
-take-key-requires c κs = tt
-
-no-way-requires : tie.Need-no-way-requires Inv-loop μ-loop
-no-way-requires c κs = tt
-
 returns : tie.Need-returns Inv-loop μ-loop
 returns c =
     let at-take-key = c .before .before .before in
     none _ _ (c .no-way .result) (c .no-way .ensures)
     (no-top _ _ (at-take-key .take-key .result) (not-true _ (c .before .if1 .taken)) (at-take-key .take-key .ensures))
-
-array-write-keys : tie.Need-array-write-keys Inv-loop μ-loop
-array-write-keys c = search needs
-
-array-write-keys-2 : tie.Need-array-write-keys-2 Inv-loop μ-loop
-array-write-keys-2 c = search needs
-
-array-write-keys-3 : tie.Need-array-write-keys-3 Inv-loop μ-loop
-array-write-keys-3 c = search needs
 
 loop-holds : tie.Need-loop-holds Inv-loop μ-loop
 unfolding pad
@@ -46,20 +31,11 @@ take-step-requires c κs =
     let at-pre = c .before .before .before .before .before .before in
     at-pre .pre
 
-enum-told : tie.Need-enum-told Inv-loop μ-loop
-enum-told c = search needs
-
 returns-2 : tie.Need-returns-2 Inv-loop μ-loop
 returns-2 c =
     let at-take-step = c .before .before in
     let at-loop = at-take-step .before .before in
     end _ _ _ _ _ _ (at-loop .loop .inv) (step-end _ _ _ (c .enum-told .given .1) (at-take-step .take-step .ensures))
-
-enum-told-2 : tie.Need-enum-told-2 Inv-loop μ-loop
-enum-told-2 c = search needs
-
-no-way-requires-2 : tie.Need-no-way-requires-2 Inv-loop μ-loop
-no-way-requires-2 c κs = tt
 
 returns-3 : tie.Need-returns-3 Inv-loop μ-loop
 returns-3 c =
@@ -67,12 +43,6 @@ returns-3 c =
     let at-loop = at-take-step .before .before in
     let h = step-none _ _ _ (c .before .enum-told2 .given .1) (at-take-step .take-step .ensures) in
     none _ _ (c .no-way2 .result) (c .no-way2 .ensures) (bad _ _ _ _ _ _ (at-loop .loop .inv) (h .0) (h .1))
-
-enum-known-x : tie.Need-enum-known-x Inv-loop μ-loop
-enum-known-x c = search needs
-
-no-way-requires-3 : tie.Need-no-way-requires-3 Inv-loop μ-loop
-no-way-requires-3 c κs = tt
 
 returns-4 : tie.Need-returns-4 Inv-loop μ-loop
 returns-4 c =
@@ -83,9 +53,6 @@ returns-4 c =
     (closed _ _ _ _ _ _ (at-loop .loop .inv) _ _ _ _ (step-took _ (at-x .x .given .1) (at-take-step .take-step .ensures))
     (c .before .if2 .taken))
 
-no-way-requires-4 : tie.Need-no-way-requires-4 Inv-loop μ-loop
-no-way-requires-4 c κs = tt
-
 returns-5 : tie.Need-returns-5 Inv-loop μ-loop
 returns-5 c =
     let at-x = c .before .before .before .before in
@@ -95,45 +62,6 @@ returns-5 c =
     (ninth _ _ _ _ _ _ (at-loop .loop .inv) _ _ _ _ (step-took _ (at-x .x .given .1) (at-take-step .take-step .ensures))
     (c .before .if3 .taken))
 
-mul-keys : tie.Need-mul-keys Inv-loop μ-loop
-mul-keys c = search needs
-
-mul-keys-2 : tie.Need-mul-keys-2 Inv-loop μ-loop
-mul-keys-2 c = search needs
-
-array-write-keys-4 : tie.Need-array-write-keys-4 Inv-loop μ-loop
-array-write-keys-4 c = search needs
-
-mul-keys-3 : tie.Need-mul-keys-3 Inv-loop μ-loop
-mul-keys-3 c = search needs
-
-add-keys : tie.Need-add-keys Inv-loop μ-loop
-add-keys c = search needs
-
-mul-keys-4 : tie.Need-mul-keys-4 Inv-loop μ-loop
-mul-keys-4 c = search needs
-
-array-write-keys-5 : tie.Need-array-write-keys-5 Inv-loop μ-loop
-array-write-keys-5 c = search needs
-
-mul-keys-5 : tie.Need-mul-keys-5 Inv-loop μ-loop
-mul-keys-5 c = search needs
-
-add-keys-2 : tie.Need-add-keys-2 Inv-loop μ-loop
-add-keys-2 c = search needs
-
-mul-keys-6 : tie.Need-mul-keys-6 Inv-loop μ-loop
-mul-keys-6 c = search needs
-
-array-write-keys-6 : tie.Need-array-write-keys-6 Inv-loop μ-loop
-array-write-keys-6 c = search needs
-
-add-i : tie.Need-add-i Inv-loop μ-loop
-add-i c = search needs
-
-loop-less : tie.Need-loop-less Inv-loop μ-loop
-loop-less c = search needs
-
 loop-again : tie.Need-loop-again Inv-loop μ-loop
 loop-again c =
     let at-x = c .before .before .before in
@@ -142,49 +70,43 @@ loop-again c =
     more _ _ _ _ _ _ (at-loop .loop .inv) _ _ _ _ (step-took _ (at-x .x .given .1) (at-take-step .take-step .ensures))
     (c .before .if2 .left) (c .if3 .left)
 
-no-way-requires-5 : tie.Need-no-way-requires-5 Inv-loop μ-loop
-no-way-requires-5 c κs = tt
-
-returns-6 : tie.Need-returns-6 Inv-loop μ-loop
-returns-6 c = absurd (omega (arith, c .before .before .loop .inv .most))
-
 pub take-way-spec : {M : Type 1} → statement M
 take-way-spec =
     tie.close
     (tie.spec
     Inv-loop
     μ-loop
-    take-key-requires
-    no-way-requires
+    (λ c κs. tt)
+    (λ c κs. tt)
     returns
-    array-write-keys
-    array-write-keys-2
-    array-write-keys-3
+    (λ c. search needs)
+    (λ c. search needs)
+    (λ c. search needs)
     loop-holds
     take-step-requires
-    enum-told
+    (λ c. search needs)
     returns-2
-    enum-told-2
-    no-way-requires-2
+    (λ c. search needs)
+    (λ c κs. tt)
     returns-3
-    enum-known-x
-    no-way-requires-3
+    (λ c. search needs)
+    (λ c κs. tt)
     returns-4
-    no-way-requires-4
+    (λ c κs. tt)
     returns-5
-    mul-keys
-    mul-keys-2
-    array-write-keys-4
-    mul-keys-3
-    add-keys
-    mul-keys-4
-    array-write-keys-5
-    mul-keys-5
-    add-keys-2
-    mul-keys-6
-    array-write-keys-6
-    add-i
-    loop-less
+    (λ c. search needs)
+    (λ c. search needs)
+    (λ c. search needs)
+    (λ c. search needs)
+    (λ c. search needs)
+    (λ c. search needs)
+    (λ c. search needs)
+    (λ c. search needs)
+    (λ c. search needs)
+    (λ c. search needs)
+    (λ c. search needs)
+    (λ c. search needs)
+    (λ c. search needs)
     loop-again
-    no-way-requires-5
-    returns-6)
+    (λ c κs. tt)
+    (λ c. absurd (omega (arith, c .before .before .loop .inv .most))))

@@ -12,31 +12,10 @@ returns c =
     let at-start = c .before .before .before .before .before .before in
     carry-long _ _ _ (at-start .args .o) _ _ (omega arith)
 
-mul-end : tie.Need-mul-end
-mul-end c = omega arith
-
 returns-2 : tie.Need-returns-2
 returns-2 c =
     let at-start = c .before .before .before .before .before .before .before in
     carry-cut _ _ _ (at-start .args .o) _ _ (omega arith)
-
-slice-aggregate-descend : tie.Need-slice-aggregate-descend
-slice-aggregate-descend c = sym (length-take-le _ _ (omega arith))
-
-descend-requires : tie.Need-descend-requires
-descend-requires c κs = search needs
-
-same-length : tie.Need-same-length
-same-length c = search needs
-
-same-length-2 : tie.Need-same-length-2
-same-length-2 c = search needs
-
-same-length-3 : tie.Need-same-length-3
-same-length-3 c = search needs
-
-same-length-4 : tie.Need-same-length-4
-same-length-4 c = search needs
 
 returns-3 : tie.Need-returns-3
 returns-3 c =
@@ -50,12 +29,12 @@ carry-way-spec =
     tie.close
     (tie.spec
     returns
-    mul-end
+    (λ c. omega arith)
     returns-2
-    slice-aggregate-descend
-    descend-requires
-    same-length
-    same-length-2
-    same-length-3
-    same-length-4
+    (λ c. sym (length-take-le _ _ (omega arith)))
+    (λ c κs. search needs)
+    (λ c. search needs)
+    (λ c. search needs)
+    (λ c. search needs)
+    (λ c. search needs)
     returns-3)

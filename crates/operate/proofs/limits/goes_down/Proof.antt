@@ -6,17 +6,11 @@ use borrow.Author.Needs.{needs}
 use Rattle.operate.proofs.limits.goes_down.Statement.{statement}
 use Rattle.operate.proofs.limits.goes_down.Tie as tie
 
-returns : tie.Need-returns
-returns c = down-other _ _ _ _ (λ e. omega (arith, e))
-
-returns-2 : tie.Need-returns-2
-returns-2 c = down-smaller _ _ _ _ (omega arith) (omega arith)
-
-is-insert-requires : tie.Need-is-insert-requires
-is-insert-requires c κs = search needs
-
-returns-3 : tie.Need-returns-3
-returns-3 c = c .is-insert .ensures ∙ down-insert _ _ _ _ (omega arith) (omega arith)
-
 pub goes-down-spec : {M : Type 1} → statement M
-goes-down-spec = tie.close (tie.spec returns returns-2 is-insert-requires returns-3)
+goes-down-spec =
+    tie.close
+    (tie.spec
+    (λ c. down-other _ _ _ _ (λ e. omega (arith, e)))
+    (λ c. down-smaller _ _ _ _ (omega arith) (omega arith))
+    (λ c κs. search needs)
+    (λ c. c .is-insert .ensures ∙ down-insert _ _ _ _ (omega arith) (omega arith)))

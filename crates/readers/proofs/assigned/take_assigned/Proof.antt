@@ -10,20 +10,8 @@ use borrow.Author.Needs.{needs}
 use Rattle.readers.proofs.assigned.take_assigned.Statement.{statement}
 use Rattle.readers.proofs.assigned.take_assigned.Tie as tie
 
-no-value-requires : tie.Need-no-value-requires
-no-value-requires c κs = search needs
-
 returns : tie.Need-returns
 returns c = refusing assigned (λ v. v) _ _ (c .no-value .result) (c .no-value .ensures) (no-assigned-end _ _ (c .before .if1 .taken))
-
-shared-slice-read-b : tie.Need-shared-slice-read-b
-shared-slice-read-b c = search needs
-
-add-a-value : tie.Need-add-a-value
-add-a-value c = search needs
-
-a-value-requires : tie.Need-a-value-requires
-a-value-requires c κs = search needs
 
 returns-2 : tie.Need-returns-2
 unfolding givenOf valueWords
@@ -32,21 +20,12 @@ returns-2 c =
     answered assigned (λ v. v) _ _ (c .a-value .result) _ _ (c .a-value .ensures) emptyMap
     (is-map _ _ (at-if1 .if1 .left) (c .before .if2 .taken)) refl refl
 
-add-a-value-2 : tie.Need-add-a-value-2
-add-a-value-2 c = search needs
-
-a-value-requires-2 : tie.Need-a-value-requires-2
-a-value-requires-2 c κs = search needs
-
 returns-3 : tie.Need-returns-3
 unfolding givenOf valueWords
 returns-3 c =
     let at-if1 = c .before .before .before .before in
     answered assigned (λ v. v) _ _ (c .a-value2 .result) _ _ (c .a-value2 .ensures) emptyList
     (is-list _ _ (at-if1 .if1 .left) (c .before .if3 .taken)) refl refl
-
-take-plain-requires : tie.Need-take-plain-requires
-take-plain-requires c κs = search needs
 
 returns-4 : tie.Need-returns-4
 returns-4 c =
@@ -58,14 +37,14 @@ pub take-assigned-spec : {M : Type 1} → statement M
 take-assigned-spec =
     tie.close
     (tie.spec
-    no-value-requires
+    (λ c κs. search needs)
     returns
-    shared-slice-read-b
-    add-a-value
-    a-value-requires
+    (λ c. search needs)
+    (λ c. search needs)
+    (λ c κs. search needs)
     returns-2
-    add-a-value-2
-    a-value-requires-2
+    (λ c. search needs)
+    (λ c κs. search needs)
     returns-3
-    take-plain-requires
+    (λ c κs. search needs)
     returns-4)

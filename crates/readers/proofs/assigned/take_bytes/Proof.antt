@@ -5,11 +5,9 @@ use borrow.Author.Needs.{needs}
 use Rattle.readers.proofs.assigned.take_bytes.Statement.{statement}
 use Rattle.readers.proofs.assigned.take_bytes.Tie as tie
 
-take-string-requires : tie.Need-take-string-requires
-take-string-requires c κs = search needs
-
-returns : tie.Need-returns
-returns c = string-value _ _ (c .before .take-string .result) (c .before .take-string .ensures)
-
 pub take-bytes-spec : {M : Type 1} → statement M
-take-bytes-spec = tie.close (tie.spec take-string-requires returns)
+take-bytes-spec =
+    tie.close
+    (tie.spec
+    (λ c κs. search needs)
+    (λ c. string-value _ _ (c .before .take-string .result) (c .before .take-string .ensures)))

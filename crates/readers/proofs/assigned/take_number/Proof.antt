@@ -10,27 +10,6 @@ use borrow.Author.Needs.{needs}
 use Rattle.readers.proofs.assigned.take_number.Statement.{statement}
 use Rattle.readers.proofs.assigned.take_number.Tie as tie
 
-take-integer-requires : tie.Need-take-integer-requires
-take-integer-requires c κs = search needs
-
-enum-known-value : tie.Need-enum-known-value
-enum-known-value c = search needs
-
-a-value-requires : tie.Need-a-value-requires
-a-value-requires c κs = search needs
-
-enum-known-value-2 : tie.Need-enum-known-value-2
-enum-known-value-2 c = search needs
-
-a-value-requires-2 : tie.Need-a-value-requires-2
-a-value-requires-2 c κs = search needs
-
-enum-told : tie.Need-enum-told
-enum-told c = search needs
-
-no-value-requires : tie.Need-no-value-requires
-no-value-requires c κs = search needs
-
 returns : tie.Need-returns
 returns c =
     let at-value = c .before .before in
@@ -61,13 +40,13 @@ pub take-number-spec : {M : Type 1} → statement M
 take-number-spec =
     tie.close
     (tie.spec
-    take-integer-requires
-    enum-known-value
-    a-value-requires
-    enum-known-value-2
-    a-value-requires-2
-    enum-told
-    no-value-requires
+    (λ c κs. search needs)
+    (λ c. search needs)
+    (λ c κs. search needs)
+    (λ c. search needs)
+    (λ c κs. search needs)
+    (λ c. search needs)
+    (λ c κs. search needs)
     returns
     returns-2
     returns-3)

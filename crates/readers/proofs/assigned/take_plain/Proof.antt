@@ -13,20 +13,8 @@ use borrow.Author.Needs.{needs}
 use Rattle.readers.proofs.assigned.take_plain.Statement.{statement}
 use Rattle.readers.proofs.assigned.take_plain.Tie as tie
 
-no-value-requires : tie.Need-no-value-requires
-no-value-requires c κs = search needs
-
 returns : tie.Need-returns
 returns c = refusing plains plain _ _ (c .no-value .result) (c .no-value .ensures) (no-plain-end _ _ (c .before .if1 .taken))
-
-shared-slice-read-b : tie.Need-shared-slice-read-b
-shared-slice-read-b c = search needs
-
-add-n : tie.Need-add-n
-add-n c = search needs
-
-a-value-requires : tie.Need-a-value-requires
-a-value-requires c κs = search needs
 
 returns-2 : tie.Need-returns-2
 unfolding givenOf valueWords
@@ -35,18 +23,12 @@ returns-2 c =
     answered plains plain _ _ (c .a-value .result) _ _ (c .a-value .ensures) null
     (is-null _ _ (at-if1 .if1 .left) (c .before .if2 .taken)) refl refl
 
-a-value-requires-2 : tie.Need-a-value-requires-2
-a-value-requires-2 c κs = search needs
-
 returns-3 : tie.Need-returns-3
 unfolding givenOf valueWords
 returns-3 c =
     let at-if1 = c .before .before .before .before in
     answered plains plain _ _ (c .a-value2 .result) _ _ (c .a-value2 .ensures) (bool true)
     (is-true _ _ (at-if1 .if1 .left) (c .before .if3 .taken)) refl refl
-
-a-value-requires-3 : tie.Need-a-value-requires-3
-a-value-requires-3 c κs = search needs
 
 returns-4 : tie.Need-returns-4
 unfolding givenOf valueWords
@@ -55,24 +37,15 @@ returns-4 c =
     answered plains plain _ _ (c .a-value3 .result) _ _ (c .a-value3 .ensures) (bool false)
     (is-false _ _ (at-if1 .if1 .left) (c .before .if4 .taken)) refl refl
 
-take-number-requires : tie.Need-take-number-requires
-take-number-requires c κs = search needs
-
 returns-5 : tie.Need-returns-5
 returns-5 c =
     let at-if1 = c .before .before .before .before .before .before in
     integer-given _ _ (at-if1 .if1 .left) (c .before .if5 .taken) (c .take-number .result) (c .take-number .ensures)
 
-take-bytes-requires : tie.Need-take-bytes-requires
-take-bytes-requires c κs = search needs
-
 returns-6 : tie.Need-returns-6
 returns-6 c =
     let at-if1 = c .before .before .before .before .before .before .before in
     string-given _ _ (at-if1 .if1 .left) (c .before .if6 .taken) (c .take-bytes .result) (c .take-bytes .ensures)
-
-no-value-requires-2 : tie.Need-no-value-requires-2
-no-value-requires-2 c κs = search needs
 
 returns-7 : tie.Need-returns-7
 returns-7 c =
@@ -89,19 +62,19 @@ pub take-plain-spec : {M : Type 1} → statement M
 take-plain-spec =
     tie.close
     (tie.spec
-    no-value-requires
+    (λ c κs. search needs)
     returns
-    shared-slice-read-b
-    add-n
-    a-value-requires
+    (λ c. search needs)
+    (λ c. search needs)
+    (λ c κs. search needs)
     returns-2
-    a-value-requires-2
+    (λ c κs. search needs)
     returns-3
-    a-value-requires-3
+    (λ c κs. search needs)
     returns-4
-    take-number-requires
+    (λ c κs. search needs)
     returns-5
-    take-bytes-requires
+    (λ c κs. search needs)
     returns-6
-    no-value-requires-2
+    (λ c κs. search needs)
     returns-7)

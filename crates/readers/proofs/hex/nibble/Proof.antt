@@ -7,26 +7,11 @@ use borrow.Author.Needs.{needs}
 use Rattle.readers.proofs.hex.nibble.Statement.{statement}
 use Rattle.readers.proofs.hex.nibble.Tie as tie
 
-returns : tie.Need-returns
-returns c = below-digits _ (c .if1 .taken)
-
-wide-requires : tie.Need-wide-requires
-wide-requires c κs = search needs
-
 returns-2 : tie.Need-returns-2
 returns-2 c =
     let at-if1 = c .before .before in
     let at-start = at-if1 .before in
     subst (ReadsDigit (at-start .args .c)) (sym (c .wide .ensures)) (decimal-digit _ (at-if1 .if1 .left) (c .before .if2 .taken))
-
-returns-3 : tie.Need-returns-3
-returns-3 c = between _ (c .before .if2 .left) (c .if3 .taken)
-
-wide-requires-2 : tie.Need-wide-requires-2
-wide-requires-2 c κs = search needs
-
-add-result : tie.Need-add-result
-add-result c = search needs
 
 returns-4 : tie.Need-returns-4
 returns-4 c =
@@ -35,18 +20,15 @@ returns-4 c =
     subst (ReadsDigit (at-start .args .c)) (ap (λ n. Prim.Native.Nat._+_ n 10) (sym (c .wide2 .ensures)))
     (letter-digit _ (at-if3 .if3 .left) (c .before .if4 .taken))
 
-returns-5 : tie.Need-returns-5
-returns-5 c = above-letters _ (c .if4 .left)
-
 pub nibble-spec : {M : Type 1} → statement M
 nibble-spec =
     tie.close
     (tie.spec
-    returns
-    wide-requires
+    (λ c. below-digits _ (c .if1 .taken))
+    (λ c κs. search needs)
     returns-2
-    returns-3
-    wide-requires-2
-    add-result
+    (λ c. between _ (c .before .if2 .left) (c .if3 .taken))
+    (λ c κs. search needs)
+    (λ c. search needs)
     returns-4
-    returns-5)
+    (λ c. above-letters _ (c .if4 .left)))

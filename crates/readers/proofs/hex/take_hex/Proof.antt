@@ -15,12 +15,6 @@ Inv-loop s a count words₀ len₀ n₀ i₀ words len n i = Parts s a words len
 abbrev μ-loop : tie.MeasureT-loop
 μ-loop s a count words₀ len₀ n₀ i₀ words len n i = count - i
 
-loop-holds : tie.Need-loop-holds Inv-loop μ-loop
-loop-holds c = (parts-start _ _, omega arith)
-
-take-word-requires : tie.Need-take-word-requires Inv-loop μ-loop
-take-word-requires c κs = search needs
-
 returns : tie.Need-returns Inv-loop μ-loop
 returns c =
     let at-take-word = c .before .before in
@@ -30,12 +24,6 @@ returns c =
     no-word (at-start .args .count) _ _ _ _ _ _ (at-loop .loop .inv .0) (at-start .pre) (at-loop-test .loop-test .taken)
     (at-take-word .take-word .result) (word-none _ _ (at-take-word .take-word .result) (not-true _ (c .if1 .taken))
     (at-take-word .take-word .ensures))
-
-mul-words : tie.Need-mul-words Inv-loop μ-loop
-mul-words c = search needs
-
-array-write-words : tie.Need-array-write-words Inv-loop μ-loop
-array-write-words c = search needs
 
 add-len : tie.Need-add-len Inv-loop μ-loop
 add-len c =
@@ -59,12 +47,6 @@ returns-2 c =
     (at-take-word .take-word .result) (word-took _ _ (at-take-word .take-word .result) (not-false _ (at-if1 .if1 .left))
     (at-take-word .take-word .ensures)) (c .if2 .taken)
 
-add-i : tie.Need-add-i Inv-loop μ-loop
-add-i c = search needs
-
-loop-less : tie.Need-loop-less Inv-loop μ-loop
-loop-less c = search needs
-
 loop-again : tie.Need-loop-again Inv-loop μ-loop
 loop-again c =
     let at-if1 = c .before .before .before in
@@ -77,12 +59,6 @@ loop-again c =
           (at-take-word .take-word .ensures)) (c .if2 .left),
       omega arith,
     )
-
-shared-slice-read-nibble : tie.Need-shared-slice-read-nibble Inv-loop μ-loop
-shared-slice-read-nibble c = search needs
-
-nibble-requires : tie.Need-nibble-requires Inv-loop μ-loop
-nibble-requires c κs = search needs
 
 returns-3 : tie.Need-returns-3 Inv-loop μ-loop
 returns-3 c =
@@ -107,18 +83,18 @@ take-hex-spec =
     (tie.spec
     Inv-loop
     μ-loop
-    loop-holds
-    take-word-requires
+    (λ c. (parts-start _ _, omega arith))
+    (λ c κs. search needs)
     returns
-    mul-words
-    array-write-words
+    (λ c. search needs)
+    (λ c. search needs)
     add-len
     returns-2
-    add-i
-    loop-less
+    (λ c. search needs)
+    (λ c. search needs)
     loop-again
-    shared-slice-read-nibble
-    nibble-requires
+    (λ c. search needs)
+    (λ c κs. search needs)
     returns-3
     returns-4
     returns-5)

@@ -5,11 +5,9 @@ use borrow.Author.Needs.{needs}
 use Rattle.readers.proofs.hex.take_string.Statement.{statement}
 use Rattle.readers.proofs.hex.take_string.Tie as tie
 
-take-hex-requires : tie.Need-take-hex-requires
-take-hex-requires c κs = search needs
-
-returns : tie.Need-returns
-returns c = string-read _ _ (c .take-hex .result) (c .take-hex .ensures)
-
 pub take-string-spec : {M : Type 1} → statement M
-take-string-spec = tie.close (tie.spec take-hex-requires returns)
+take-string-spec =
+    tie.close
+    (tie.spec
+    (λ c κs. search needs)
+    (λ c. string-read _ _ (c .take-hex .result) (c .take-hex .ensures)))

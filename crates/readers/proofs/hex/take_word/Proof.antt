@@ -16,27 +16,12 @@ Inv-loop s a word₀ len₀ weight₀ n₀ word len weight n = Part s a word len
 abbrev μ-loop : tie.MeasureT-loop
 μ-loop s a word₀ len₀ weight₀ n₀ word len weight n = 8 - len
 
-loop-holds : tie.Need-loop-holds Inv-loop μ-loop
-loop-holds c = part-start _ _
-
-returns : tie.Need-returns Inv-loop μ-loop
-returns c = a-word _ _ _ _ _ _ (c .before .before .loop .inv) (λ h. stops-end _ _ (c .if1 .taken))
-
-shared-slice-read-nibble : tie.Need-shared-slice-read-nibble Inv-loop μ-loop
-shared-slice-read-nibble c = search needs
-
-nibble-requires : tie.Need-nibble-requires Inv-loop μ-loop
-nibble-requires c κs = search needs
-
 returns-2 : tie.Need-returns-2 Inv-loop μ-loop
 returns-2 c =
     let at-if1 = c .before .before .before in
     let at-loop = at-if1 .before .before in
     a-word _ _ _ _ _ _ (at-loop .loop .inv) (λ h. stops-at _ _ (at-if1 .if1 .left)
     (c .before .nibble .ensures .other (c .if2 .taken)))
-
-add-m : tie.Need-add-m Inv-loop μ-loop
-add-m c = search needs
 
 returns-3 : tie.Need-returns-3 Inv-loop μ-loop
 returns-3 c =
@@ -45,12 +30,6 @@ returns-3 c =
     let at-loop = at-if1 .before .before in
     odd _ _ (at-if1 .if1 .left) _ (c .before .if2 .left) (at-nibble .nibble .ensures .digit (c .before .if2 .left)) _ _
     (at-loop .loop .inv .hexed) (stops-end _ _ (c .if3 .taken))
-
-shared-slice-read-nibble-2 : tie.Need-shared-slice-read-nibble-2 Inv-loop μ-loop
-shared-slice-read-nibble-2 c = search needs
-
-nibble-requires-2 : tie.Need-nibble-requires-2 Inv-loop μ-loop
-nibble-requires-2 c κs = search needs
 
 returns-4 : tie.Need-returns-4 Inv-loop μ-loop
 returns-4 c =
@@ -61,12 +40,6 @@ returns-4 c =
     let at-loop = at-if1 .before .before in
     odd _ _ (at-if1 .if1 .left) _ (at-if2 .if2 .left) (at-nibble .nibble .ensures .digit (at-if2 .if2 .left)) _ _
     (at-loop .loop .inv .hexed) (stops-at _ _ (at-if3 .if3 .left) (c .before .nibble2 .ensures .other (c .if4 .taken)))
-
-mul-word : tie.Need-mul-word Inv-loop μ-loop
-mul-word c = search needs
-
-add-word : tie.Need-add-word Inv-loop μ-loop
-add-word c = search needs
 
 mul-word-2 : tie.Need-mul-word-2 Inv-loop μ-loop
 mul-word-2 c =
@@ -98,15 +71,6 @@ add-word-2 c =
           (c .before .nibble2 .ensures .digit (c .if4 .left)),
     )
 
-add-len : tie.Need-add-len Inv-loop μ-loop
-add-len c = search needs
-
-add-n : tie.Need-add-n Inv-loop μ-loop
-add-n c = search needs
-
-loop-less : tie.Need-loop-less Inv-loop μ-loop
-loop-less c = search needs
-
 loop-again : tie.Need-loop-again Inv-loop μ-loop
 loop-again c =
     let at-if3 = c .before .before .before in
@@ -119,31 +83,28 @@ loop-again c =
     (at-nibble .nibble .ensures .digit (at-if2 .if2 .left)) (at-if3 .if3 .left) (c .if4 .left)
     (c .before .nibble2 .ensures .digit (c .if4 .left))
 
-returns-5 : tie.Need-returns-5 Inv-loop μ-loop
-returns-5 c = a-word _ _ _ _ _ _ (c .before .loop .inv) (λ h. absurd (omega arith))
-
 pub take-word-spec : {M : Type 1} → statement M
 take-word-spec =
     tie.close
     (tie.spec
     Inv-loop
     μ-loop
-    loop-holds
-    returns
-    shared-slice-read-nibble
-    nibble-requires
+    (λ c. part-start _ _)
+    (λ c. a-word _ _ _ _ _ _ (c .before .before .loop .inv) (λ h. stops-end _ _ (c .if1 .taken)))
+    (λ c. search needs)
+    (λ c κs. search needs)
     returns-2
-    add-m
+    (λ c. search needs)
     returns-3
-    shared-slice-read-nibble-2
-    nibble-requires-2
+    (λ c. search needs)
+    (λ c κs. search needs)
     returns-4
-    mul-word
-    add-word
+    (λ c. search needs)
+    (λ c. search needs)
     mul-word-2
     add-word-2
-    add-len
-    add-n
-    loop-less
+    (λ c. search needs)
+    (λ c. search needs)
+    (λ c. search needs)
     loop-again
-    returns-5)
+    (λ c. a-word _ _ _ _ _ _ (c .before .loop .inv) (λ h. absurd (omega arith))))

@@ -20,9 +20,6 @@ abbrev μ-loop : tie.MeasureT-loop
 loop-holds : tie.Need-loop-holds Inv-loop μ-loop
 loop-holds c = (sum-begun (markText (c .before .args .marks .now)) (λ i. i + 1) (c .before .args .from) (c .before .args .n) 47, refl)
 
-word-requires : tie.Need-word-requires Inv-loop μ-loop
-word-requires c κs = search needs
-
 mark-line-size-requires : tie.Need-mark-line-size-requires Inv-loop μ-loop
 mark-line-size-requires c κs =
     let at-pre = c .before .before .before .before in
@@ -41,12 +38,6 @@ add-i c =
     let at-loop = at-loop-test .before in
     let at-pre = at-loop .before .before in
     omega (arith, at-loop .loop .inv .1, at-loop-test .loop-test .taken, at-pre .pre .1)
-
-sub-left : tie.Need-sub-left Inv-loop μ-loop
-sub-left c = omega (arith, c .before .before .loop-test .taken)
-
-loop-less : tie.Need-loop-less Inv-loop μ-loop
-loop-less c = omega (arith, c .before .before .loop-test .taken)
 
 loop-again : tie.Need-loop-again Inv-loop μ-loop
 loop-again c =
@@ -73,11 +64,11 @@ marks-size-spec =
     Inv-loop
     μ-loop
     loop-holds
-    word-requires
+    (λ c κs. search needs)
     mark-line-size-requires
     add-sum
     add-i
-    sub-left
-    loop-less
+    (λ c. omega (arith, c .before .before .loop-test .taken))
+    (λ c. omega (arith, c .before .before .loop-test .taken))
     loop-again
     returns)

@@ -18,21 +18,6 @@ Inv-loop buf₀ marks from n t at₀ i₀ left₀ buf at i left = Writing (marks
 abbrev μ-loop : tie.MeasureT-loop
 μ-loop buf₀ marks from n t at₀ i₀ left₀ buf at i left = left
 
-loop-holds : tie.Need-loop-holds Inv-loop μ-loop
-loop-holds c = (begun _ _ (c .before .before .pre .2), refl)
-
-sub-put-mark-line : tie.Need-sub-put-mark-line Inv-loop μ-loop
-sub-put-mark-line c = omega (arith, last-room (c .before .loop .inv .0))
-
-part-put-mark-line-start : tie.Need-part-put-mark-line-start Inv-loop μ-loop
-part-put-mark-line-start c = omega (arith, last-room (c .before .loop .inv .0))
-
-part-put-mark-line-end : tie.Need-part-put-mark-line-end Inv-loop μ-loop
-part-put-mark-line-end c = omega (arith, last-room (c .before .loop .inv .0))
-
-word-requires : tie.Need-word-requires Inv-loop μ-loop
-word-requires c κs = search needs
-
 put-mark-line-requires : tie.Need-put-mark-line-requires Inv-loop μ-loop
 put-mark-line-requires c κs =
     let at-loop-test = c .before .before in
@@ -90,9 +75,6 @@ loop-again c =
           (arith, at-loop .loop .inv .1, at-loop-test .loop-test .taken),
     )
 
-same-length : tie.Need-same-length Inv-loop μ-loop
-same-length c = same-long (c .before .loop .inv .0)
-
 returns : tie.Need-returns Inv-loop μ-loop
 returns c =
     let at-start = c .before .before .before .before in
@@ -105,16 +87,16 @@ put-marks-spec =
     (tie.spec
     Inv-loop
     μ-loop
-    loop-holds
-    sub-put-mark-line
-    part-put-mark-line-start
-    part-put-mark-line-end
-    word-requires
+    (λ c. (begun _ _ (c .before .before .pre .2), refl))
+    (λ c. omega (arith, last-room (c .before .loop .inv .0)))
+    (λ c. omega (arith, last-room (c .before .loop .inv .0)))
+    (λ c. omega (arith, last-room (c .before .loop .inv .0)))
+    (λ c κs. search needs)
     put-mark-line-requires
     add-at
     add-i
     sub-left
     loop-less
     loop-again
-    same-length
+    (λ c. same-long (c .before .loop .inv .0))
     returns)

@@ -10,9 +10,6 @@ use borrow.Author.Needs.{needs}
 use Rattle.sheet.proofs.listed.put_row.Statement.{statement}
 use Rattle.sheet.proofs.listed.put_row.Tie as tie
 
-word-requires : tie.Need-word-requires
-word-requires c κs = search needs
-
 put-place-requires : tie.Need-put-place-requires
 put-place-requires c κs =
     let at-pre = c .before .before .before .before .before .before .before in (
@@ -187,7 +184,7 @@ pub put-row-spec : {M : Type 1} → statement M
 put-row-spec =
     tie.close
     (tie.spec
-    word-requires
+    (λ c κs. search needs)
     put-place-requires
     sub-put-marks
     part-put-marks-start

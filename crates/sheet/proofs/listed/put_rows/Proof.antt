@@ -24,15 +24,6 @@ loop-holds c =
     let at-pre = c .before .before .before .before .before in
     (begun _ _ (at-pre .pre .2), going-first (at-pre .args .rows))
 
-sub-put-row : tie.Need-sub-put-row Inv-loop μ-loop
-sub-put-row c = omega (arith, last-room (c .before .loop .inv .0))
-
-part-put-row-start : tie.Need-part-put-row-start Inv-loop μ-loop
-part-put-row-start c = omega (arith, last-room (c .before .loop .inv .0))
-
-part-put-row-end : tie.Need-part-put-row-end Inv-loop μ-loop
-part-put-row-end c = omega (arith, last-room (c .before .loop .inv .0))
-
 put-row-requires : tie.Need-put-row-requires Inv-loop μ-loop
 put-row-requires c κs =
     let at-loop = c .before .before in
@@ -62,9 +53,6 @@ add-at c =
       same-long (at-loop .loop .inv .0),
     )
 
-past-requires : tie.Need-past-requires Inv-loop μ-loop
-past-requires c κs = search needs
-
 sub-left : tie.Need-sub-left Inv-loop μ-loop
 sub-left c =
     let at-loop-test = c .before .before .before .before .before in
@@ -92,9 +80,6 @@ loop-again c =
           (at-loop .loop .left) (at-loop-test .loop-test .taken) (at-loop .loop .inv .1) _,
     )
 
-same-length : tie.Need-same-length Inv-loop μ-loop
-same-length c = same-long (c .before .loop .inv .0)
-
 returns : tie.Need-returns Inv-loop μ-loop
 returns c =
     let at-start = c .before .before .before .before .before .before .before in
@@ -110,14 +95,14 @@ put-rows-spec =
     Inv-loop
     μ-loop
     loop-holds
-    sub-put-row
-    part-put-row-start
-    part-put-row-end
+    (λ c. omega (arith, last-room (c .before .loop .inv .0)))
+    (λ c. omega (arith, last-room (c .before .loop .inv .0)))
+    (λ c. omega (arith, last-room (c .before .loop .inv .0)))
     put-row-requires
     add-at
-    past-requires
+    (λ c κs. search needs)
     sub-left
     loop-less
     loop-again
-    same-length
+    (λ c. same-long (c .before .loop .inv .0))
     returns)

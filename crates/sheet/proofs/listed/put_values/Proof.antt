@@ -16,18 +16,6 @@ Inv-loop buf₀ values from n t at₀ i₀ left₀ buf at i left = Writing (valu
 abbrev μ-loop : tie.MeasureT-loop
 μ-loop buf₀ values from n t at₀ i₀ left₀ buf at i left = left
 
-loop-holds : tie.Need-loop-holds Inv-loop μ-loop
-loop-holds c = (begun _ _ (c .before .before .pre .2), refl)
-
-sub-put-value : tie.Need-sub-put-value Inv-loop μ-loop
-sub-put-value c = omega (arith, last-room (c .before .loop .inv .0))
-
-part-put-value-start : tie.Need-part-put-value-start Inv-loop μ-loop
-part-put-value-start c = omega (arith, last-room (c .before .loop .inv .0))
-
-part-put-value-end : tie.Need-part-put-value-end Inv-loop μ-loop
-part-put-value-end c = omega (arith, last-room (c .before .loop .inv .0))
-
 put-value-requires : tie.Need-put-value-requires Inv-loop μ-loop
 put-value-requires c κs =
     let at-loop = c .before .before in
@@ -81,9 +69,6 @@ loop-again c =
           (arith, at-loop .loop .inv .1, at-loop-test .loop-test .taken),
     )
 
-same-length : tie.Need-same-length Inv-loop μ-loop
-same-length c = same-long (c .before .loop .inv .0)
-
 returns : tie.Need-returns Inv-loop μ-loop
 returns c =
     let at-start = c .before .before .before .before in
@@ -96,15 +81,15 @@ put-values-spec =
     (tie.spec
     Inv-loop
     μ-loop
-    loop-holds
-    sub-put-value
-    part-put-value-start
-    part-put-value-end
+    (λ c. (begun _ _ (c .before .before .pre .2), refl))
+    (λ c. omega (arith, last-room (c .before .loop .inv .0)))
+    (λ c. omega (arith, last-room (c .before .loop .inv .0)))
+    (λ c. omega (arith, last-room (c .before .loop .inv .0)))
     put-value-requires
     add-at
     add-i
     sub-left
     loop-less
     loop-again
-    same-length
+    (λ c. same-long (c .before .loop .inv .0))
     returns)

@@ -9,9 +9,6 @@ use borrow.Author.Needs.{needs}
 use Rattle.sheet.proofs.listed.row_size.Statement.{statement}
 use Rattle.sheet.proofs.listed.row_size.Tie as tie
 
-word-requires : tie.Need-word-requires
-word-requires c κs = search needs
-
 place-size-requires : tie.Need-place-size-requires
 place-size-requires c κs =
     let at-pre = c .before .before .before .before .before in
@@ -64,7 +61,7 @@ pub row-size-spec : {M : Type 1} → statement M
 row-size-spec =
     tie.close
     (tie.spec
-    word-requires
+    (λ c κs. search needs)
     place-size-requires
     marks-size-requires
     values-size-requires

@@ -43,15 +43,6 @@ add-sum c =
     let at-pre = at-loop .before .before .before .before .before in
     omega (arith, c .row-size .ensures .most, at-loop .loop .inv .0 .most, c .before .loop-test .taken, at-pre .pre .1)
 
-past-requires : tie.Need-past-requires Inv-loop μ-loop
-past-requires c κs = search needs
-
-sub-left : tie.Need-sub-left Inv-loop μ-loop
-sub-left c = omega (arith, c .before .before .loop-test .taken)
-
-loop-less : tie.Need-loop-less Inv-loop μ-loop
-loop-less c = omega (arith, c .before .before .loop-test .taken)
-
 loop-again : tie.Need-loop-again Inv-loop μ-loop
 loop-again c =
     let at-loop-test = c .before .before in
@@ -85,8 +76,8 @@ rows-size-spec =
     loop-holds
     row-size-requires
     add-sum
-    past-requires
-    sub-left
-    loop-less
+    (λ c κs. search needs)
+    (λ c. omega (arith, c .before .before .loop-test .taken))
+    (λ c. omega (arith, c .before .before .loop-test .taken))
     loop-again
     returns)

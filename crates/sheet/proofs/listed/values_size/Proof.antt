@@ -35,12 +35,6 @@ add-i c =
     let at-pre = at-loop .before .before in
     omega (arith, at-loop .loop .inv .1, c .before .loop-test .taken, at-pre .pre .1)
 
-sub-left : tie.Need-sub-left Inv-loop μ-loop
-sub-left c = omega (arith, c .before .loop-test .taken)
-
-loop-less : tie.Need-loop-less Inv-loop μ-loop
-loop-less c = omega (arith, c .before .loop-test .taken)
-
 loop-again : tie.Need-loop-again Inv-loop μ-loop
 loop-again c =
     let at-loop = c .before .before in
@@ -67,7 +61,7 @@ values-size-spec =
     value-size-requires
     add-sum
     add-i
-    sub-left
-    loop-less
+    (λ c. omega (arith, c .before .loop-test .taken))
+    (λ c. omega (arith, c .before .loop-test .taken))
     loop-again
     returns)

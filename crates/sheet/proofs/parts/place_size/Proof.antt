@@ -6,33 +6,6 @@ use borrow.Author.Needs.{needs}
 use Rattle.sheet.proofs.parts.place_size.Statement.{statement}
 use Rattle.sheet.proofs.parts.place_size.Tie as tie
 
-mul-word : tie.Need-mul-word
-mul-word c = search needs
-
-word-requires : tie.Need-word-requires
-word-requires c κs = search needs
-
-mul-word-2 : tie.Need-mul-word-2
-mul-word-2 c = search needs
-
-add-word : tie.Need-add-word
-add-word c = search needs
-
-word-requires-2 : tie.Need-word-requires-2
-word-requires-2 c κs = search needs
-
-mul-word-3 : tie.Need-mul-word-3
-mul-word-3 c = search needs
-
-add-word-2 : tie.Need-add-word-2
-add-word-2 c = search needs
-
-word-requires-3 : tie.Need-word-requires-3
-word-requires-3 c κs = search needs
-
-spot-of-requires : tie.Need-spot-of-requires
-spot-of-requires c κs = search needs
-
 place-line-size-requires : tie.Need-place-line-size-requires
 place-line-size-requires c κs =
     let at-pre = c .before .before .before .before .before in
@@ -51,14 +24,14 @@ pub place-size-spec : {M : Type 1} → statement M
 place-size-spec =
     tie.close
     (tie.spec
-    mul-word
-    word-requires
-    mul-word-2
-    add-word
-    word-requires-2
-    mul-word-3
-    add-word-2
-    word-requires-3
-    spot-of-requires
+    (λ c. search needs)
+    (λ c κs. search needs)
+    (λ c. search needs)
+    (λ c. search needs)
+    (λ c κs. search needs)
+    (λ c. search needs)
+    (λ c. search needs)
+    (λ c κs. search needs)
+    (λ c κs. search needs)
     place-line-size-requires
     returns)

@@ -6,33 +6,6 @@ use borrow.Author.Needs.{needs}
 use Rattle.sheet.proofs.parts.put_place.Statement.{statement}
 use Rattle.sheet.proofs.parts.put_place.Tie as tie
 
-mul-word : tie.Need-mul-word
-mul-word c = search needs
-
-word-requires : tie.Need-word-requires
-word-requires c κs = search needs
-
-mul-word-2 : tie.Need-mul-word-2
-mul-word-2 c = search needs
-
-add-word : tie.Need-add-word
-add-word c = search needs
-
-word-requires-2 : tie.Need-word-requires-2
-word-requires-2 c κs = search needs
-
-mul-word-3 : tie.Need-mul-word-3
-mul-word-3 c = search needs
-
-add-word-2 : tie.Need-add-word-2
-add-word-2 c = search needs
-
-word-requires-3 : tie.Need-word-requires-3
-word-requires-3 c κs = search needs
-
-spot-of-requires : tie.Need-spot-of-requires
-spot-of-requires c κs = search needs
-
 put-place-line-requires : tie.Need-put-place-line-requires
 put-place-line-requires c κs =
     let at-word3 = c .before .before in
@@ -45,9 +18,6 @@ put-place-line-requires c κs =
           (place-here (at-pre .args .h) (at-pre .args .keys .now) (at-pre .args .row) (at-word .word .ensures) (at-word2 .word2 .ensures)
           (at-word3 .word3 .ensures) (c .before .spot-of .ensures .0)) (at-pre .pre .2),
     )
-
-same-length : tie.Need-same-length
-same-length c = search needs
 
 returns : tie.Need-returns
 returns c =
@@ -65,15 +35,15 @@ pub put-place-spec : {M : Type 1} → statement M
 put-place-spec =
     tie.close
     (tie.spec
-    mul-word
-    word-requires
-    mul-word-2
-    add-word
-    word-requires-2
-    mul-word-3
-    add-word-2
-    word-requires-3
-    spot-of-requires
+    (λ c. search needs)
+    (λ c κs. search needs)
+    (λ c. search needs)
+    (λ c. search needs)
+    (λ c κs. search needs)
+    (λ c. search needs)
+    (λ c. search needs)
+    (λ c κs. search needs)
+    (λ c κs. search needs)
     put-place-line-requires
-    same-length
+    (λ c. search needs)
     returns)

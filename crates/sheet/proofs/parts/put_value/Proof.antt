@@ -8,45 +8,6 @@ use borrow.Author.Needs.{needs}
 use Rattle.sheet.proofs.parts.put_value.Statement.{statement}
 use Rattle.sheet.proofs.parts.put_value.Tie as tie
 
-mul-a : tie.Need-mul-a
-mul-a c = search needs
-
-add-word : tie.Need-add-word
-add-word c = search needs
-
-word-requires : tie.Need-word-requires
-word-requires c κs = search needs
-
-add-word-2 : tie.Need-add-word-2
-add-word-2 c = search needs
-
-word-requires-2 : tie.Need-word-requires-2
-word-requires-2 c κs = search needs
-
-kind-of-requires : tie.Need-kind-of-requires
-kind-of-requires c κs = search needs
-
-add-word-3 : tie.Need-add-word-3
-add-word-3 c = search needs
-
-word-requires-3 : tie.Need-word-requires-3
-word-requires-3 c κs = search needs
-
-add-word-4 : tie.Need-add-word-4
-add-word-4 c = search needs
-
-word-requires-4 : tie.Need-word-requires-4
-word-requires-4 c κs = search needs
-
-add-word-5 : tie.Need-add-word-5
-add-word-5 c = search needs
-
-word-requires-5 : tie.Need-word-requires-5
-word-requires-5 c κs = search needs
-
-word-requires-6 : tie.Need-word-requires-6
-word-requires-6 c κs = search needs
-
 put-value-line-requires : tie.Need-put-value-line-requires
 put-value-line-requires c κs =
     let at-word5 = c .before .before in
@@ -63,9 +24,6 @@ put-value-line-requires c κs =
           (at-kind-of .kind-of .ensures .0) (at-word3 .word3 .ensures) (at-word4 .word4 .ensures) (at-word5 .word5 .ensures)
           (c .word6 .ensures)) (at-pre .pre .2),
     )
-
-same-length : tie.Need-same-length
-same-length c = search needs
 
 returns : tie.Need-returns
 returns c =
@@ -87,19 +45,19 @@ pub put-value-spec : {M : Type 1} → statement M
 put-value-spec =
     tie.close
     (tie.spec
-    mul-a
-    add-word
-    word-requires
-    add-word-2
-    word-requires-2
-    kind-of-requires
-    add-word-3
-    word-requires-3
-    add-word-4
-    word-requires-4
-    add-word-5
-    word-requires-5
-    word-requires-6
+    (λ c. search needs)
+    (λ c. search needs)
+    (λ c κs. search needs)
+    (λ c. search needs)
+    (λ c κs. search needs)
+    (λ c κs. search needs)
+    (λ c. search needs)
+    (λ c κs. search needs)
+    (λ c. search needs)
+    (λ c κs. search needs)
+    (λ c. search needs)
+    (λ c κs. search needs)
+    (λ c κs. search needs)
     put-value-line-requires
-    same-length
+    (λ c. search needs)
     returns)

@@ -8,45 +8,6 @@ use borrow.Author.Needs.{needs}
 use Rattle.sheet.proofs.parts.value_size.Statement.{statement}
 use Rattle.sheet.proofs.parts.value_size.Tie as tie
 
-mul-a : tie.Need-mul-a
-mul-a c = search needs
-
-add-word : tie.Need-add-word
-add-word c = search needs
-
-word-requires : tie.Need-word-requires
-word-requires c κs = search needs
-
-add-word-2 : tie.Need-add-word-2
-add-word-2 c = search needs
-
-word-requires-2 : tie.Need-word-requires-2
-word-requires-2 c κs = search needs
-
-kind-of-requires : tie.Need-kind-of-requires
-kind-of-requires c κs = search needs
-
-add-word-3 : tie.Need-add-word-3
-add-word-3 c = search needs
-
-word-requires-3 : tie.Need-word-requires-3
-word-requires-3 c κs = search needs
-
-add-word-4 : tie.Need-add-word-4
-add-word-4 c = search needs
-
-word-requires-4 : tie.Need-word-requires-4
-word-requires-4 c κs = search needs
-
-add-word-5 : tie.Need-add-word-5
-add-word-5 c = search needs
-
-word-requires-5 : tie.Need-word-requires-5
-word-requires-5 c κs = search needs
-
-word-requires-6 : tie.Need-word-requires-6
-word-requires-6 c κs = search needs
-
 value-line-size-requires : tie.Need-value-line-size-requires
 value-line-size-requires c κs =
     let at-kind-of = c .before .before .before .before in
@@ -71,18 +32,18 @@ pub value-size-spec : {M : Type 1} → statement M
 value-size-spec =
     tie.close
     (tie.spec
-    mul-a
-    add-word
-    word-requires
-    add-word-2
-    word-requires-2
-    kind-of-requires
-    add-word-3
-    word-requires-3
-    add-word-4
-    word-requires-4
-    add-word-5
-    word-requires-5
-    word-requires-6
+    (λ c. search needs)
+    (λ c. search needs)
+    (λ c κs. search needs)
+    (λ c. search needs)
+    (λ c κs. search needs)
+    (λ c κs. search needs)
+    (λ c. search needs)
+    (λ c κs. search needs)
+    (λ c. search needs)
+    (λ c κs. search needs)
+    (λ c. search needs)
+    (λ c κs. search needs)
+    (λ c κs. search needs)
     value-line-size-requires
     returns)

@@ -15,28 +15,13 @@ returns-2 : tie.Need-returns-2
 unfolding Adds
 returns-2 c k m A R r x H t u l w = absurd (omega (arith, l, c .if2 .taken))
 
-mul-if3 : tie.Need-mul-if3
-mul-if3 c = search needs
-
-add-if3 : tie.Need-add-if3
-add-if3 c = search needs
-
 returns-3 : tie.Need-returns-3
 unfolding Adds
 returns-3 c k m A R r x H t u l w = absurd (omega (arith, placed _ _ _ A R r H t .values-long, l, c .if3 .taken))
 
-mul-h : tie.Need-mul-h
-mul-h c = search needs
-
-slice-read-h : tie.Need-slice-read-h
-slice-read-h c = search needs
-
 returns-4 : tie.Need-returns-4
 unfolding Adds
 returns-4 c k m A R r x H t u l w = absurd (omega (arith, placed _ _ _ A R r H t .small, c .if4 .taken))
-
-values-of-requires : tie.Need-values-of-requires
-values-of-requires c κs = search needs
 
 returns-5 : tie.Need-returns-5
 unfolding Adds
@@ -47,57 +32,6 @@ unfolding Adds
 returns-6 c k m A R r x H t u l w =
     let p = placed _ _ _ A R r H t in
     absurd (omega (arith, p .values-low, p .values, c .before .before .values-of .ensures, c .if6 .taken))
-
-mul-from : tie.Need-mul-from
-mul-from c = search needs
-
-rank-values-requires : tie.Need-rank-values-requires
-rank-values-requires c κs = search needs
-
-mul-at : tie.Need-mul-at
-mul-at c = search needs
-
-add-at : tie.Need-add-at
-add-at c = search needs
-
-mul-open : tie.Need-mul-open
-mul-open c = search needs
-
-open-requires : tie.Need-open-requires
-open-requires c κs = search needs
-
-array-read-heads : tie.Need-array-read-heads
-array-read-heads c = search needs
-
-array-read-t34 : tie.Need-array-read-t34
-array-read-t34 c = search needs
-
-array-read-t37 : tie.Need-array-read-t37
-array-read-t37 c = search needs
-
-array-read-t40 : tie.Need-array-read-t40
-array-read-t40 c = search needs
-
-write-words-requires : tie.Need-write-words-requires
-write-words-requires c κs = search needs
-
-add-heads : tie.Need-add-heads
-add-heads c = search needs
-
-mul-heads : tie.Need-mul-heads
-mul-heads c = search needs
-
-slice-write-heads : tie.Need-slice-write-heads
-slice-write-heads c = search needs
-
-add-t17 : tie.Need-add-t17
-add-t17 c = search needs
-
-same-length : tie.Need-same-length
-same-length c = search needs
-
-same-length-2 : tie.Need-same-length-2
-same-length-2 c = search needs
 
 returns-7 : tie.Need-returns-7
 returns-7 c =
@@ -116,30 +50,30 @@ add-value-spec =
     (tie.spec
     returns
     returns-2
-    mul-if3
-    add-if3
+    (λ c. search needs)
+    (λ c. search needs)
     returns-3
-    mul-h
-    slice-read-h
+    (λ c. search needs)
+    (λ c. search needs)
     returns-4
-    values-of-requires
+    (λ c κs. search needs)
     returns-5
     returns-6
-    mul-from
-    rank-values-requires
-    mul-at
-    add-at
-    mul-open
-    open-requires
-    array-read-heads
-    array-read-t34
-    array-read-t37
-    array-read-t40
-    write-words-requires
-    add-heads
-    mul-heads
-    slice-write-heads
-    add-t17
-    same-length
-    same-length-2
+    (λ c. search needs)
+    (λ c κs. search needs)
+    (λ c. search needs)
+    (λ c. search needs)
+    (λ c. search needs)
+    (λ c κs. search needs)
+    (λ c. search needs)
+    (λ c. search needs)
+    (λ c. search needs)
+    (λ c. search needs)
+    (λ c κs. search needs)
+    (λ c. search needs)
+    (λ c. search needs)
+    (λ c. search needs)
+    (λ c. search needs)
+    (λ c. search needs)
+    (λ c. search needs)
     returns-7)

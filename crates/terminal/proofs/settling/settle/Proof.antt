@@ -27,12 +27,6 @@ abbrev μ-loop : tie.MeasureT-loop
 returns : tie.Need-returns Inv-loop μ-loop
 returns c = record { few = omega arith; settles = λ X K. absurd (omega (arith, K .waiting .fit, c .if1 .taken)) }
 
-loop-holds : tie.Need-loop-holds Inv-loop μ-loop
-loop-holds c = (omega arith, c .if1 .left, (refl, refl, refl, refl, refl), λ X K. underway X _ _ _ K)
-
-round-requires : tie.Need-round-requires Inv-loop μ-loop
-round-requires c κs = search needs
-
 add-dropped : tie.Need-add-dropped Inv-loop μ-loop
 add-dropped c =
     let at-round = c .before .before .before .before .before .before .before .before .before .before .before .before in
@@ -121,8 +115,8 @@ settle-spec =
     Inv-loop
     μ-loop
     returns
-    loop-holds
-    round-requires
+    (λ c. (omega arith, c .if1 .left, (refl, refl, refl, refl, refl), λ X K. underway X _ _ _ K))
+    (λ c κs. search needs)
     add-dropped
     same-length
     same-length-2

@@ -23,18 +23,6 @@ abbrev μ-loop : tie.MeasureT-loop
 μ-loop heads keys marks values waiting₀ seen state₀ found₀ able₀ i₀ waiting state found able i =
     state .waiting - i
 
-loop-holds : tie.Need-loop-holds Inv-loop μ-loop
-loop-holds c = (omega arith, refl, refl, λ X K. begins _ _ _ X K)
-
-early-requires : tie.Need-early-requires Inv-loop μ-loop
-early-requires c κs = search needs
-
-add-i : tie.Need-add-i Inv-loop μ-loop
-add-i c = search needs
-
-loop-less : tie.Need-loop-less Inv-loop μ-loop
-loop-less c = search needs
-
 loop-again : tie.Need-loop-again Inv-loop μ-loop
 loop-again c =
     let at-early = c .before in
@@ -47,18 +35,6 @@ loop-again c =
           passes-early _ _ _ X _ _ _ _ (looks-early _ _ _ _ _ _ (at-loop .loop .inv .2) (at-early .early .ensures) (c .if2 .taken))
           (at-loop .loop .inv .3 X K) (at-if1 .if1 .taken) refl refl,
     )
-
-look-requires : tie.Need-look-requires Inv-loop μ-loop
-look-requires c κs = search needs
-
-is-dead-requires : tie.Need-is-dead-requires Inv-loop μ-loop
-is-dead-requires c κs = search needs
-
-take-out-requires : tie.Need-take-out-requires Inv-loop μ-loop
-take-out-requires c κs = search needs
-
-same-length : tie.Need-same-length Inv-loop μ-loop
-same-length c = search needs
 
 returns : tie.Need-returns Inv-loop μ-loop
 returns c =
@@ -79,9 +55,6 @@ returns c =
           ));
     }
 
-loop-less-2 : tie.Need-loop-less-2 Inv-loop μ-loop
-loop-less-2 c = search needs
-
 loop-again-2 : tie.Need-loop-again-2 Inv-loop μ-loop
 loop-again-2 c =
     let at-take-out = c .before .before .before in
@@ -97,15 +70,6 @@ loop-again-2 c =
           drops _ _ _ X _ _ _ _ (at-look .look .ensures) (at-loop .loop .inv .3 X K) (at-if1 .if1 .taken) _ _
           (at-take-out .take-out .ensures) (sym (at-is-dead .is-dead .ensures) ∙ at-if3 .if3 .taken),
     )
-
-add-i-2 : tie.Need-add-i-2 Inv-loop μ-loop
-add-i-2 c = search needs
-
-is-taken-requires : tie.Need-is-taken-requires Inv-loop μ-loop
-is-taken-requires c κs = search needs
-
-loop-less-3 : tie.Need-loop-less-3 Inv-loop μ-loop
-loop-less-3 c = search needs
 
 loop-again-3 : tie.Need-loop-again-3 Inv-loop μ-loop
 loop-again-3 c =
@@ -123,9 +87,6 @@ loop-again-3 c =
           (sym (at-is-dead .is-dead .ensures) ∙ at-if3 .if3 .left) (not-true _ (at-if5 .if5 .taken)) _ (c .is-taken .ensures),
     )
 
-loop-less-4 : tie.Need-loop-less-4 Inv-loop μ-loop
-loop-less-4 c = search needs
-
 loop-again-4 : tie.Need-loop-again-4 Inv-loop μ-loop
 loop-again-4 c =
     let at-if3 = c .before in
@@ -141,9 +102,6 @@ loop-again-4 c =
           (sym (at-is-dead .is-dead .ensures) ∙ at-if3 .if3 .left) (not-false _ (c .if5 .left)),
     )
 
-same-length-2 : tie.Need-same-length-2 Inv-loop μ-loop
-same-length-2 c = search needs
-
 returns-2 : tie.Need-returns-2 Inv-loop μ-loop
 returns-2 c = record {
   fewer = c .before .before .loop .inv .0;
@@ -156,23 +114,23 @@ sweep-spec =
     (tie.spec
     Inv-loop
     μ-loop
-    loop-holds
-    early-requires
-    add-i
-    loop-less
+    (λ c. (omega arith, refl, refl, λ X K. begins _ _ _ X K))
+    (λ c κs. search needs)
+    (λ c. search needs)
+    (λ c. search needs)
     loop-again
-    look-requires
-    is-dead-requires
-    take-out-requires
-    same-length
+    (λ c κs. search needs)
+    (λ c κs. search needs)
+    (λ c κs. search needs)
+    (λ c. search needs)
     returns
-    loop-less-2
+    (λ c. search needs)
     loop-again-2
-    add-i-2
-    is-taken-requires
-    loop-less-3
+    (λ c. search needs)
+    (λ c κs. search needs)
+    (λ c. search needs)
     loop-again-3
-    loop-less-4
+    (λ c. search needs)
     loop-again-4
-    same-length-2
+    (λ c. search needs)
     returns-2)

@@ -16,33 +16,6 @@ Inv-loop t from at₀ i₀ at i = (i ≤ 8) × (length at₀ ≡ 8) × Laying 0 
 abbrev μ-loop : tie.MeasureT-loop
 μ-loop t from at₀ i₀ at i = 8 - i
 
-loop-holds : tie.Need-loop-holds Inv-loop μ-loop
-loop-holds c = (search needs, refl, laying-start _ _ _)
-
-add-at : tie.Need-add-at Inv-loop μ-loop
-add-at c = search needs
-
-mul-at : tie.Need-mul-at Inv-loop μ-loop
-mul-at c = search needs
-
-shared-slice-read-at : tie.Need-shared-slice-read-at Inv-loop μ-loop
-shared-slice-read-at c = search needs
-
-cast-at : tie.Need-cast-at Inv-loop μ-loop
-cast-at c = search needs
-
-mul-at-2 : tie.Need-mul-at-2 Inv-loop μ-loop
-mul-at-2 c = search needs
-
-array-write-at : tie.Need-array-write-at Inv-loop μ-loop
-array-write-at c = search needs
-
-add-i : tie.Need-add-i Inv-loop μ-loop
-add-i c = search needs
-
-loop-less : tie.Need-loop-less Inv-loop μ-loop
-loop-less c = search needs
-
 loop-again : tie.Need-loop-again Inv-loop μ-loop
 loop-again c =
     let at-loop = c .before .before in
@@ -61,14 +34,14 @@ counters-at-spec =
     (tie.spec
     Inv-loop
     μ-loop
-    loop-holds
-    add-at
-    mul-at
-    shared-slice-read-at
-    cast-at
-    mul-at-2
-    array-write-at
-    add-i
-    loop-less
+    (λ c. (search needs, refl, laying-start _ _ _))
+    (λ c. search needs)
+    (λ c. search needs)
+    (λ c. search needs)
+    (λ c. search needs)
+    (λ c. search needs)
+    (λ c. search needs)
+    (λ c. search needs)
+    (λ c. search needs)
     loop-again
     returns)

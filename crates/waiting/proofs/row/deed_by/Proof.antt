@@ -1,6 +1,5 @@
 -- `waiting::row::deed_by` meets its contract. Assumes nothing.
-use mathlib.Core.Path.{ap}
-use borrow.Author.Tests.{lt-ltb, le-ltb, eq-eqb, ne-eqb}
+use borrow.Author.Tests.{lt-ltb, le-ltb, ne-eqb}
 use Rattle.waiting.specs.Rows.{deedBy}
 use borrow.Author.Needs.{needs}
 use Rattle.waiting.proofs.row.deed_by.Statement.{statement}
@@ -10,18 +9,9 @@ returns : tie.Need-returns
 unfolding deedBy
 returns c = rw (c .if1 .taken)
 
-sub-given-by : tie.Need-sub-given-by
-sub-given-by c = search needs
-
-given-by-requires : tie.Need-given-by-requires
-given-by-requires c κs = search needs
-
 returns-2 : tie.Need-returns-2
 unfolding deedBy
 returns-2 c = rw (ne-eqb _ 0 (c .before .before .if1 .left), lt-ltb _ 9 (c .before .if2 .taken), c .given-by .ensures)
-
-given-by-requires-2 : tie.Need-given-by-requires-2
-given-by-requires-2 c κs = search needs
 
 returns-3 : tie.Need-returns-3
 unfolding deedBy
@@ -30,4 +20,10 @@ returns-3 c = rw (ne-eqb _ 0 (c .before .before .if1 .left), le-ltb _ 9 (c .befo
 pub deed-by-spec : {M : Type 1} → statement M
 deed-by-spec =
     tie.close
-    (tie.spec returns sub-given-by given-by-requires returns-2 given-by-requires-2 returns-3)
+    (tie.spec
+    returns
+    (λ c. search needs)
+    (λ c κs. search needs)
+    returns-2
+    (λ c κs. search needs)
+    returns-3)

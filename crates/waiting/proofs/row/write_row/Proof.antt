@@ -1,6 +1,5 @@
 -- `waiting::row::write_row` meets its contract: the parts of the row, one behind another. Assumes nothing.
-use Prim.Native.Nat.{_+_, _≤_}
-use mathlib.Core.Path.{_≡_, sym, ap, _∙_}
+use mathlib.Core.Path.{_≡_, _∙_}
 use native.Mathlib.Omega.{arith}
 use lib.ListN.{length, length-set}
 use Rattle.waiting.proofs.Written.{written}
@@ -35,50 +34,20 @@ third-long : (c : tie.After-write3) → length (c .write3 .last .0) ≡ length
 third-long c =
     c .write3 .kept .0 ∙ second-long (c .before .before .before .before .before .before)
 
-mul-t : tie.Need-mul-t
-mul-t c = search needs
-
-slice-write-t : tie.Need-slice-write-t
-slice-write-t c = search needs
-
-add-lay-counters : tie.Need-add-lay-counters
-add-lay-counters c = search needs
-
 lay-counters-requires : tie.Need-lay-counters-requires
 lay-counters-requires c κs =
     let at-pre = c .before .before .before .before .before .before .before in
     simp length-set (omega (arith, at-pre .pre))
-
-add-lay : tie.Need-add-lay
-add-lay c = search needs
-
-slice-aggregate-lay : tie.Need-slice-aggregate-lay
-slice-aggregate-lay c = search needs
 
 lay-requires : tie.Need-lay-requires
 lay-requires c κs =
     let d = c .before .before .before .before in
     omega (arith, begin d .pre, keys-long (begin d), first-long d)
 
-add-write3 : tie.Need-add-write3
-add-write3 c = search needs
-
-deed-code-requires : tie.Need-deed-code-requires
-deed-code-requires c κs = search needs
-
-deed-number-requires : tie.Need-deed-number-requires
-deed-number-requires c κs = search needs
-
 write3-requires : tie.Need-write3-requires
 write3-requires c κs =
     let k = c .before .before .before .before .before in
     omega (arith, begin (k .before .before .before .before .before) .pre, second-long k)
-
-add-lay-2 : tie.Need-add-lay-2
-add-lay-2 c = search needs
-
-slice-aggregate-lay-2 : tie.Need-slice-aggregate-lay-2
-slice-aggregate-lay-2 c = search needs
 
 lay-requires-2 : tie.Need-lay-requires-2
 lay-requires-2 c κs =
@@ -106,19 +75,19 @@ pub write-row-spec : {M : Type 1} → statement M
 write-row-spec =
     tie.close
     (tie.spec
-    mul-t
-    slice-write-t
-    add-lay-counters
+    (λ c. search needs)
+    (λ c. search needs)
+    (λ c. search needs)
     lay-counters-requires
-    add-lay
-    slice-aggregate-lay
+    (λ c. search needs)
+    (λ c. search needs)
     lay-requires
-    add-write3
-    deed-code-requires
-    deed-number-requires
+    (λ c. search needs)
+    (λ c κs. search needs)
+    (λ c κs. search needs)
     write3-requires
-    add-lay-2
-    slice-aggregate-lay-2
+    (λ c. search needs)
+    (λ c. search needs)
     lay-requires-2
     same-length
     returns)

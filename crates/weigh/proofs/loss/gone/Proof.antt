@@ -4,24 +4,6 @@ use Rattle.weigh.proofs.Blocks.{block-gone}
 use Rattle.weigh.proofs.loss.gone.Statement.{statement}
 use Rattle.weigh.proofs.loss.gone.Tie as tie
 
-gone-row-requires : tie.Need-gone-row-requires
-gone-row-requires c κs = search needs
-
-past-requires : tie.Need-past-requires
-past-requires c κs = search needs
-
-depth-at-requires : tie.Need-depth-at-requires
-depth-at-requires c κs = search needs
-
-gone-under-requires : tie.Need-gone-under-requires
-gone-under-requires c κs = search needs
-
-add-t11 : tie.Need-add-t11
-add-t11 c = search needs
-
-add-t12 : tie.Need-add-t12
-add-t12 c = search needs
-
 returns : tie.Need-returns
 returns c =
     let at-gone-under = c .before .before .before .before in
@@ -35,10 +17,10 @@ pub gone-spec : {M : Type 1} → statement M
 gone-spec =
     tie.close
     (tie.spec
-    gone-row-requires
-    past-requires
-    depth-at-requires
-    gone-under-requires
-    add-t11
-    add-t12
+    (λ c κs. search needs)
+    (λ c κs. search needs)
+    (λ c κs. search needs)
+    (λ c κs. search needs)
+    (λ c. search needs)
+    (λ c. search needs)
     returns)

@@ -12,18 +12,6 @@ Inv-loop heads marks values rows n d at₀ sum₀ at sum = Going heads marks val
 abbrev μ-loop : tie.MeasureT-loop
 μ-loop heads marks values rows n d at₀ sum₀ at sum = rows - at .row
 
-returns : tie.Need-returns Inv-loop μ-loop
-returns c = under-none _ _ _ _ _ _ _ (λ t q h. omega (arith, q, h .few, h .row, h .mark, h .value))
-
-returns-2 : tie.Need-returns-2 Inv-loop μ-loop
-returns-2 c = under-none _ _ _ _ _ _ _ (λ t q h. omega (arith, q, h .few, h .row, h .mark, h .value))
-
-returns-3 : tie.Need-returns-3 Inv-loop μ-loop
-returns-3 c = under-none _ _ _ _ _ _ _ (λ t q h. omega (arith, q, h .few, h .row, h .mark, h .value))
-
-returns-4 : tie.Need-returns-4 Inv-loop μ-loop
-returns-4 c = under-none _ _ _ _ _ _ _ (λ t q h. omega (arith, q, h .few, h .row, h .mark, h .value))
-
 loop-holds : tie.Need-loop-holds Inv-loop μ-loop
 loop-holds c =
     let at-if3 = c .before .before in
@@ -36,37 +24,10 @@ returns-5 c =
     let at-loop = c .before .before .before in
     going-out _ _ _ _ _ _ _ _ _ (at-loop .loop .inv) (c .if6 .taken)
 
-mul-h : tie.Need-mul-h Inv-loop μ-loop
-mul-h c = search needs
-
-shared-slice-read-h : tie.Need-shared-slice-read-h Inv-loop μ-loop
-shared-slice-read-h c = search needs
-
 returns-6 : tie.Need-returns-6 Inv-loop μ-loop
 returns-6 c =
     let at-loop = c .before .before .before .before .before in
     going-stop _ _ _ _ _ _ _ _ _ (at-loop .loop .inv) (c .if7 .taken)
-
-gone-row-requires : tie.Need-gone-row-requires Inv-loop μ-loop
-gone-row-requires c κs = search needs
-
-add-t15 : tie.Need-add-t15 Inv-loop μ-loop
-add-t15 c = search needs
-
-add-t18 : tie.Need-add-t18 Inv-loop μ-loop
-add-t18 c = search needs
-
-add-t15-2 : tie.Need-add-t15-2 Inv-loop μ-loop
-add-t15-2 c = search needs
-
-add-t20 : tie.Need-add-t20 Inv-loop μ-loop
-add-t20 c = search needs
-
-add-t24 : tie.Need-add-t24 Inv-loop μ-loop
-add-t24 c = search needs
-
-loop-less : tie.Need-loop-less Inv-loop μ-loop
-loop-less c = search needs
 
 loop-again : tie.Need-loop-again Inv-loop μ-loop
 loop-again c =
@@ -76,30 +37,27 @@ loop-again c =
     let at-loop = at-if5 .before .before in
     going-on _ _ _ _ _ _ _ _ _ (at-loop .loop .inv) (at-if5 .if5 .taken) (at-if7 .if7 .left) _ (at-gone-row .gone-row .ensures)
 
-returns-7 : tie.Need-returns-7 Inv-loop μ-loop
-returns-7 c = going-end _ _ _ _ _ _ _ _ _ (c .before .before .loop .inv) (c .if5 .left)
-
 pub gone-under-spec : {M : Type 1} → statement M
 gone-under-spec =
     tie.close
     (tie.spec
     Inv-loop
     μ-loop
-    returns
-    returns-2
-    returns-3
-    returns-4
+    (λ c. under-none _ _ _ _ _ _ _ (λ t q h. omega (arith, q, h .few, h .row, h .mark, h .value)))
+    (λ c. under-none _ _ _ _ _ _ _ (λ t q h. omega (arith, q, h .few, h .row, h .mark, h .value)))
+    (λ c. under-none _ _ _ _ _ _ _ (λ t q h. omega (arith, q, h .few, h .row, h .mark, h .value)))
+    (λ c. under-none _ _ _ _ _ _ _ (λ t q h. omega (arith, q, h .few, h .row, h .mark, h .value)))
     loop-holds
     returns-5
-    mul-h
-    shared-slice-read-h
+    (λ c. search needs)
+    (λ c. search needs)
     returns-6
-    gone-row-requires
-    add-t15
-    add-t18
-    add-t15-2
-    add-t20
-    add-t24
-    loop-less
+    (λ c κs. search needs)
+    (λ c. search needs)
+    (λ c. search needs)
+    (λ c. search needs)
+    (λ c. search needs)
+    (λ c. search needs)
+    (λ c. search needs)
     loop-again
-    returns-7)
+    (λ c. going-end _ _ _ _ _ _ _ _ _ (c .before .before .loop .inv) (c .if5 .left)))

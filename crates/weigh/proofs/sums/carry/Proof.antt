@@ -24,15 +24,9 @@ returns-3 : tie.Need-returns-3
 unfolding carried
 returns-3 c = rw (c .before .if1 .taken, c .if2 .left)
 
-weightless-requires : tie.Need-weightless-requires
-weightless-requires c κs = search needs
-
 returns-4 : tie.Need-returns-4
 unfolding carried
 returns-4 c = c .weightless .ensures ∙ rw (c .before .before .if1 .left, c .before .if4 .taken)
-
-add-t9 : tie.Need-add-t9
-add-t9 c = search needs
 
 returns-5 : tie.Need-returns-5
 unfolding carried
@@ -40,9 +34,6 @@ returns-5 c =
     let at-if4 = c .before .before in
     let at-if1 = at-if4 .before in
     rw (at-if1 .if1 .left, at-if4 .if4 .left, c .before .if5 .taken)
-
-weightless-requires-2 : tie.Need-weightless-requires-2
-weightless-requires-2 c κs = search needs
 
 returns-6 : tie.Need-returns-6
 unfolding carried
@@ -58,9 +49,9 @@ carry-spec =
     returns
     returns-2
     returns-3
-    weightless-requires
+    (λ c κs. search needs)
     returns-4
-    add-t9
+    (λ c. search needs)
     returns-5
-    weightless-requires-2
+    (λ c κs. search needs)
     returns-6)

@@ -6,21 +6,6 @@ use Rattle.weigh.specs.Weighs.{deedNumber}
 use Rattle.weigh.proofs.sums.deed_number.Statement.{statement}
 use Rattle.weigh.proofs.sums.deed_number.Tie as tie
 
-enum-known-deed : tie.Need-enum-known-deed
-enum-known-deed c = search needs
-
-plain-requires : tie.Need-plain-requires
-plain-requires c κs = search needs
-
-enum-known-deed-2 : tie.Need-enum-known-deed-2
-enum-known-deed-2 c = search needs
-
-plain-requires-2 : tie.Need-plain-requires-2
-plain-requires-2 c κs = search needs
-
-enum-told : tie.Need-enum-told
-enum-told c = search needs
-
 returns : tie.Need-returns
 unfolding deedNumber
 returns c =
@@ -53,11 +38,11 @@ pub deed-number-spec : {M : Type 1} → statement M
 deed-number-spec =
     tie.close
     (tie.spec
-    enum-known-deed
-    plain-requires
-    enum-known-deed-2
-    plain-requires-2
-    enum-told
+    (λ c. search needs)
+    (λ c κs. search needs)
+    (λ c. search needs)
+    (λ c κs. search needs)
+    (λ c. search needs)
     returns
     returns-2
     returns-3
