@@ -26,8 +26,8 @@ ghost use Rattle.answers.specs.Keys.{shortOf, isTold, keyText, keysFrom,
 pub fn message(buf: &mut [u8], id: u64, deps: Counters, lines: &[u8]) -> Saved
     ensures { λ r. ⌜ Fills (messageHead id (deps .at) ++ now (lines .entry)) (now (buf .entry)) r (now (buf .exit)) ⌝ }
 {
-    let t = decimal::powers();
-    let head = message_head_size(id, deps, &t);
+    let powers = decimal::powers();
+    let head = message_head_size(id, deps, &powers);
     if usize::MAX - head < lines.len() {
         return Saved::ShortBuffer { needed: usize::MAX };
     }
@@ -35,7 +35,7 @@ pub fn message(buf: &mut [u8], id: u64, deps: Counters, lines: &[u8]) -> Saved
     if buf.len() < needed {
         return Saved::ShortBuffer { needed };
     }
-    let a = put_message_head(buf, id, deps, &t);
+    let a = put_message_head(buf, id, deps, &powers);
     let written = then_text(buf, a, lines);
     Saved::Written { written }
 }
@@ -44,12 +44,12 @@ pub fn message(buf: &mut [u8], id: u64, deps: Counters, lines: &[u8]) -> Saved
 pub fn element(buf: &mut [u8], id: u64) -> Saved
     ensures { λ r. ⌜ Fills (idRow id) (now (buf .entry)) r (now (buf .exit)) ⌝ }
 {
-    let t = decimal::powers();
-    let needed = id_row_size(id, &t);
+    let powers = decimal::powers();
+    let needed = id_row_size(id, &powers);
     if buf.len() < needed {
         return Saved::ShortBuffer { needed };
     }
-    let written = put_id_row(buf, id, &t);
+    let written = put_id_row(buf, id, &powers);
     Saved::Written { written }
 }
 

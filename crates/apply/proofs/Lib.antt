@@ -1,8 +1,6 @@
-pub mod Gaps
-pub mod Cases
-pub mod Leading
-pub mod Entering
-pub mod Seating
-pub mod Giving
-pub mod Inserting
-pub mod Descending
+pub mod Words
+pub mod Rooms
+pub mod Tops
+pub mod Verdicts
+pub mod Carrying
+pub mod Determined

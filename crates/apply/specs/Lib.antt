@@ -1,3 +1,1 @@
-pub mod Reach
-pub mod Doing
-pub mod Going
+pub mod Judging

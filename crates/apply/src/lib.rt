@@ -1,246 +1,259 @@
-// Document 01, "What an operation does": an operation carried out on the tables, in place. The way is followed from the root down; what its
-// end says is done first, and each place on the way is marked on the way back, so that no step moves what a later one looks for. At the end
-// of the way a gap of as many words as there are marks to put in stands in the marks; it travels to the front, and no mark is moved twice.
-mod kinds;
-mod seats;
+// Document 01, "What is answered": an operation judged on the document as it stands, before anything is changed, and then carried out.
+mod carry;
+mod limits;
 
-use kinds::branch_of;
-use kinds::given_in;
-use kinds::inserts_here;
-use kinds::is_delete;
-pub use kinds::is_insert;
-use kinds::kind_of;
-use kinds::may_make;
-use kinds::parts_of;
+use carry::carry_out;
+use limits::goes_down;
+use limits::has_room;
+use limits::is_small;
 use meaning::Counters;
 use message::Deed;
-use readers::Given;
-use seats::put_element;
-use steps::Gapped;
+use message::Operation;
 use tables::Counts;
-use tables::Stop;
-use tables::Want;
-use tables::past;
-use tables::want_of;
-ghost use Rattle.tables.specs.Wants.{wantOf};
+use tables::Position;
+ghost use mathlib.Core.Path.{_≡_};
 ghost use Rattle.tables.specs.Holding.{four};
-ghost use Rattle.apply.specs.Doing.{mayMake};
-ghost use Rattle.apply.specs.Doing.{Leads, Gives, Finishes, Enters, Descends};
+ghost use Rattle.apply.specs.Judging.{isTaken};
+ghost use Rattle.apply.specs.Judging.{TopsIn, JudgesCounters, JudgesWay, JudgesReady, Judges, TakesOn, Applies};
 
-// What is done, and by which operation.
-pub struct Act {
-    pub id: u64,
-    pub deps: Counters,
-    pub deed: Deed,
-    pub words: [u64; 4],
+// What an operation comes to: it is taken; it comes too early; or the refusals of document 01, by name.
+pub enum Judgement {
+    Taken,
+    Early,
+    Counter,
+    Repeat,
+    OwnDeps,
+    NoElement,
+    NotSmaller,
+    NoRoom,
 }
 
-// Where a new element comes, if its predecessor is there.
-struct Seat {
-    there: bool,
-    at: Stop,
-}
-
-// The row that a key leads to, if there is one now.
-pub struct Child {
-    pub there: bool,
-    pub at: Stop,
+pub struct Outcome {
+    pub answer: Judgement,
     pub counts: Counts,
+    pub seen: Counters,
 }
 
-// The row that is looked for, made if it isn't there and may be.
-fn lead(heads: &mut [u64], keys: &mut [u64], c: Counts, from: Stop, w: Want, make: bool) -> Child
-    ensures { λ r. ⌜ Leads w make c from (now (heads .entry)) (now (keys .entry)) (now (heads .exit)) (now (keys .exit)) r ⌝ }
-{
-    let rows = c.rows;
-    let at = tables::find(heads, keys, rows, from, w);
-    let row = at.row;
-    if tables::known(heads, keys, rows, row, w) {
-        return Child {
-            there: true,
-            at,
-            counts: c,
-        };
-    }
-    if make {
-        let counts = steps::open_row(heads, keys, c, row, w.depth, 0, w.hi, w.lo, w.len);
-        return Child {
-            there: true,
-            at,
-            counts,
-        };
-    }
-    Child {
-        there: false,
-        at,
-        counts: c,
-    }
+// The document's counts and counters after an operation that was taken.
+pub struct Later {
+    pub counts: Counts,
+    pub seen: Counters,
 }
 
-// The row of a key of the way, among rows of depth n; `left` words of the way are left behind the key.
-fn reach(
-    heads: &mut [u64],
-    keys: &mut [u64],
+// 8, 9, 10, of an operation that is ready; `words` are those of its way, of n keys.
+fn judge_way(
+    heads: &[u64],
+    keys: &[u64],
+    marks: &[u64],
+    values: &[u64],
     c: Counts,
-    from: Stop,
-    n: u64,
-    hi: u64,
-    lo: u64,
-    len: u64,
-    left: usize,
-    deed: Deed,
-) -> Child
-    ensures { λ r. ⌜ Leads (wantOf n hi lo len) (mayMake len left deed) c from (now (heads .entry)) (now (keys .entry)) (now (heads .exit))
-        (now (keys .exit)) r ⌝ }
-{
-    let w = want_of(n, hi, lo, len);
-    let make = may_make(len, left, deed);
-    lead(heads, keys, c, from, w, make)
-}
-
-// Assigns at a row: a plain value takes the place of those that deps cover; an empty map or list clears the place. The mark is the first of
-// n that are to be put in.
-fn give(
-    heads: &mut [u64],
-    marks: &mut [u64],
-    values: &mut [u64],
-    c: Counts,
-    s: Stop,
+    top: Position,
     id: u64,
     deps: Counters,
-    g: Given,
-    words: [u64; 4],
+    deed: Deed,
+    words: &[u64],
     n: usize,
-) -> Gapped
-    ensures { λ r. ⌜ Gives id (deps .at) g words n s c (now (heads .entry)) (now (marks .entry)) (now (values .entry)) (r .counts) (r .gap)
-        (now (heads .exit)) (now (marks .exit)) (now (values .exit)) ⌝ }
+) -> Judgement
+    ensures { λ r. ⌜ JudgesWay (four (now (heads .entry)) (now (keys .entry)) (now (marks .entry)) (now (values .entry))) c top id
+        (deps .at) deed (now (words .entry)) n r ⌝ }
 {
-    let branch = branch_of(g);
-    if branch == 0 {
-        let a = steps::mark_row(heads, marks, c, s, id, c.marks, n);
-        let kind = kind_of(g);
-        let parts = parts_of(g, words);
-        let e = steps::set_value(heads, values, a.counts, s, deps, id, kind, parts);
-        return Gapped {
-            counts: e,
-            gap: a.gap,
-        };
+    if n > 8 {
+        return Judgement::NoElement;
     }
-    let row = s.row;
-    let a = clear::clear_block(heads, marks, values, c, s, deps);
-    let b = steps::mark_row(heads, marks, a, s, id, a.marks, n);
-    steps::flag_row(heads, row, branch == 2);
-    b
+    if n == 0 {
+        return Judgement::NoElement;
+    }
+    let end = 3 * n;
+    if end > words.len() {
+        return Judgement::NoElement;
+    }
+    let w = forecast::weigh(
+        heads,
+        keys,
+        marks,
+        values,
+        c.rows,
+        top,
+        1,
+        true,
+        deps,
+        deed,
+        &words[..end],
+    );
+    if !w.found {
+        return Judgement::NoElement;
+    }
+    if goes_down(deed, id, words[end - 3], words[end - 1]) {
+        return Judgement::NotSmaller;
+    }
+    if !is_small(c, w) {
+        return Judgement::NoRoom;
+    }
+    if has_room(c, w) {
+        return Judgement::Taken;
+    }
+    Judgement::NoRoom
 }
 
-// What the way's end says: an assign or a delete, at a row of depth n.
-fn finish(
-    heads: &mut [u64],
-    marks: &mut [u64],
-    values: &mut [u64],
+fn judge_ready(
+    heads: &[u64],
+    keys: &[u64],
+    marks: &[u64],
+    values: &[u64],
     c: Counts,
-    s: Stop,
-    o: Act,
-    n: usize,
-) -> Gapped
-    ensures { λ r. ⌜ Finishes o n s c (now (heads .entry)) (now (marks .entry)) (now (values .entry)) (r .counts) (r .gap)
-        (now (heads .exit)) (now (marks .exit)) (now (values .exit)) ⌝ }
+    top: Position,
+    op: Operation,
+) -> Judgement
+    ensures { λ r. ⌜ JudgesReady (four (now (heads .entry)) (now (keys .entry)) (now (marks .entry)) (now (values .entry))) c top op r ⌝ }
 {
-    let deed = o.deed;
-    let deps = o.deps;
-    if is_delete(deed) {
-        let counts = clear::clear_block(heads, marks, values, c, s, deps);
-        return Gapped {
-            counts,
-            gap: counts.marks,
-        };
-    }
-    let words = o.words;
-    give(
+    let way = op.way;
+    let words = way.keys;
+    let deed = op.deed;
+    let deps = op.deps;
+    judge_way(
         heads,
+        keys,
         marks,
         values,
         c,
-        s,
-        o.id,
+        top,
+        op.id,
         deps,
-        given_in(deed),
-        words,
-        n,
+        deed,
+        &words,
+        way.n,
     )
 }
 
-// A place of depth n that the way goes on from: it is marked, unless the operation deletes, and its branch has its flag.
-fn enter(
-    heads: &mut [u64],
-    marks: &mut [u64],
-    c: Counts,
-    s: Stop,
-    o: Act,
-    list: bool,
-    gap: usize,
-    n: usize,
-) -> Gapped
-    ensures { λ r. ⌜ Enters o list n s c gap (now (heads .entry)) (now (marks .entry)) (r .counts) (r .gap) (now (heads .exit))
-        (now (marks .exit)) ⌝ }
+// 2, 3, 4, and whether it comes too early.
+fn judge_counters(seen: Counters, op: Operation) -> Judgement
+    ensures { λ r. ⌜ JudgesCounters seen op r ⌝ }
 {
-    let row = s.row;
-    let deed = o.deed;
-    if is_delete(deed) {
-        steps::flag_row(heads, row, list);
-        return Gapped { counts: c, gap };
+    let id = op.id;
+    let deps = op.deps;
+    if counters::not_above(id, deps) {
+        return Judgement::Counter;
     }
-    let e = steps::mark_row(heads, marks, c, s, o.id, gap, n);
-    steps::flag_row(heads, row, list);
-    e
+    if counters::repeated(seen, id) {
+        return Judgement::Repeat;
+    }
+    if counters::own_deps_behind(seen, id, deps) {
+        return Judgement::OwnDeps;
+    }
+    if counters::ready(seen, id, deps) {
+        return Judgement::Taken;
+    }
+    Judgement::Early
 }
 
-// Follows the way among the rows behind a place, whose children have depth n: to the row of its first key, and from there along the
-// remaining keys. Unless the operation deletes, the n - 1 marks of the places above are left to be put in: the gap for them stands.
-pub fn descend(
+// Where the search for the way's first key stops: it is the longest, and made once for judging and carrying out.
+fn top_of(heads: &[u64], keys: &[u64], rows: usize, op: Operation) -> Position
+    ensures { λ r. ⌜ TopsIn (now (heads .entry)) (now (keys .entry)) rows (op .way .keys) r ⌝ }
+{
+    let way = op.way;
+    let words = way.keys;
+    let first = Position {
+        row: 0,
+        mark: 0,
+        value: 0,
+    };
+    let w = tables::search_of(1, words[0], words[1], words[2]);
+    tables::find(heads, keys, rows, first, w)
+}
+
+// 2, 3, 4; then, if it is ready, 8, 9, 10.
+pub fn judge(
+    heads: &[u64],
+    keys: &[u64],
+    marks: &[u64],
+    values: &[u64],
+    c: Counts,
+    seen: Counters,
+    op: Operation,
+) -> Judgement
+    ensures { λ r. ⌜ Judges (four (now (heads .entry)) (now (keys .entry)) (now (marks .entry)) (now (values .entry))) c seen op r ⌝ }
+{
+    let early = judge_counters(seen, op);
+    if is_taken(early) {
+        let top = top_of(heads, keys, c.rows, op);
+        return judge_ready(heads, keys, marks, values, c, top, op);
+    }
+    early
+}
+
+// Whether an operation is taken.
+pub fn is_taken(answer: Judgement) -> bool
+    ensures { λ r. ⌜ r ≡ isTaken answer ⌝ }
+{
+    match answer {
+        Judgement::Taken => true,
+        Judgement::Early => false,
+        Judgement::Counter => false,
+        Judgement::Repeat => false,
+        Judgement::OwnDeps => false,
+        Judgement::NoElement => false,
+        Judgement::NotSmaller => false,
+        Judgement::NoRoom => false,
+    }
+}
+
+// Takes an operation that was judged so: carries it out, and raises seen.
+pub fn take(
     heads: &mut [u64],
     keys: &mut [u64],
     marks: &mut [u64],
     values: &mut [u64],
     c: Counts,
-    from: Stop,
-    n: u64,
-    o: Act,
-    way: &[u64],
-) -> Gapped
-    ensures { λ r. ⌜ Descends o n (now (way .entry)) from c
-        (four (now (heads .entry)) (now (keys .entry)) (now (marks .entry)) (now (values .entry))) (r .counts) (r .gap)
+    seen: Counters,
+    op: Operation,
+) -> Later
+    ensures { λ r. ⌜ TakesOn (four (now (heads .entry)) (now (keys .entry)) (now (marks .entry)) (now (values .entry))) c seen op r
         (four (now (heads .exit)) (now (keys .exit)) (now (marks .exit)) (now (values .exit))) ⌝ }
 {
-    let left = way.len();
-    let gap = c.marks;
-    if left < 3 {
-        return Gapped { counts: c, gap };
+    let top = top_of(heads, keys, c.rows, op);
+    let counts = carry_out(heads, keys, marks, values, c, top, op);
+    let after = counters::raise(seen, op.id);
+    Later {
+        counts,
+        seen: after,
     }
-    if n > 8 {
-        return Gapped { counts: c, gap };
+}
+
+// Judges an operation, and takes it if it may be. A refusal changes nothing.
+pub fn apply(
+    heads: &mut [u64],
+    keys: &mut [u64],
+    marks: &mut [u64],
+    values: &mut [u64],
+    c: Counts,
+    seen: Counters,
+    op: Operation,
+) -> Outcome
+    ensures { λ r. ⌜ Applies (four (now (heads .entry)) (now (keys .entry)) (now (marks .entry)) (now (values .entry))) c seen op r
+        (four (now (heads .exit)) (now (keys .exit)) (now (marks .exit)) (now (values .exit))) ⌝ }
+{
+    let early = judge_counters(seen, op);
+    if !is_taken(early) {
+        return Outcome {
+            answer: early,
+            counts: c,
+            seen,
+        };
     }
-    let hi = way[0];
-    let lo = way[1];
-    let len = way[2];
-    let deed = o.deed;
-    if inserts_here(left, deed) {
-        return put_element(heads, keys, marks, values, c, from, n, hi, len, o);
+    let top = top_of(heads, keys, c.rows, op);
+    let answer = judge_ready(heads, keys, marks, values, c, top, op);
+    if !is_taken(answer) {
+        return Outcome {
+            answer,
+            counts: c,
+            seen,
+        };
     }
-    let x = reach(heads, keys, c, from, n, hi, lo, len, left - 3, deed);
-    if !x.there {
-        return Gapped { counts: c, gap };
+    let counts = carry_out(heads, keys, marks, values, c, top, op);
+    let raised = counters::raise(seen, op.id);
+    Outcome {
+        answer,
+        counts,
+        seen: raised,
     }
-    let at = x.at;
-    let counts = x.counts;
-    if left == 3 {
-        return finish(heads, marks, values, counts, at, o, n as usize);
-    }
-    if left < 6 {
-        return Gapped { counts, gap };
-    }
-    let third = way[5];
-    let p = past(heads, at);
-    let e = descend(heads, keys, marks, values, counts, p, n + 1, o, &way[3..]);
-    enter(heads, marks, e.counts, at, o, third > 16, e.gap, n as usize)
 }

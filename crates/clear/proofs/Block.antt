@@ -18,9 +18,9 @@ use Rattle.tables.specs.Holding.{headsRoom, keysRoom, marksRoom, valuesRoom, Go
 use Rattle.tables.specs.Parts.{marks-length, values-length, marks-of-append, values-of-append, at-behind, all-left, all-right, all-both}
 use Rattle.tables.specs.Parts.{heads-long, marks-long, values-long}
 use Rattle.tables.specs.declared.Counts.{Counts}
-use Rattle.tables.specs.declared.Stop.{Stop}
+use Rattle.tables.specs.declared.Position.{Position}
 use Rattle.clear.specs.declared.Cursor.{Cursor}
-use Rattle.clear.specs.Gapped.{Gapped}
+use Rattle.clear.specs.WithGap.{WithGap}
 use Rattle.clear.specs.Clear.{Pass, passing, Gaps, ClearsPlace, Clears}
 
 -- The words that a gap leaves free go behind the live ones.
@@ -58,11 +58,11 @@ keys-clear d A R r n =
     ∙ (ap (λ l. keysOf A ++ (spotWords (r .spot) ++ l)) e ∙ sym (keys-append A (r ∷ R)))
 
 -- where the pass begins
-abbrev pub begin : Stop → Cursor
+abbrev pub begin : Position → Cursor
 begin s = record { row = s .row; mark = s .mark; marked = s .mark; value = s .value * 6; valued = s .value * 6 }
 
 -- what the tests at the start look for
-pub record Sits (h m v : List ℕ) (c : Counts) (s : Stop) : Type 0 where
+pub record Sits (h m v : List ℕ) (c : Counts) (s : Position) : Type 0 where
   pub rows-in : c .rows ≤ length h
   pub row-in : s .row < c .rows
   pub marks-in : c .marks ≤ length m
@@ -70,7 +70,7 @@ pub record Sits (h m v : List ℕ) (c : Counts) (s : Stop) : Type 0 where
   pub values-in : c .values ≤ length v / 6
   pub value-in : s .value ≤ c .values
 
-module _ (h m v : List ℕ) (c : Counts) (s : Stop) (k : List ℕ) (A R : List Row) (r : Row) (H : Holds (four h k m v) c (A ++ r ∷ R))
+module _ (h m v : List ℕ) (c : Counts) (s : Position) (k : List ℕ) (A R : List Row) (r : Row) (H : Holds (four h k m v) c (A ++ r ∷ R))
     (e : s ≡ behind A) where
   pub sits : Sits h m v c s
   sits =
@@ -84,7 +84,7 @@ module _ (h m v : List ℕ) (c : Counts) (s : Stop) (k : List ℕ) (A R : List R
         value-in = omega (arith, a .value, H .values-are, values-append A (r ∷ R));
       }
 
-  pub begins : Gapped c h m v (begin s) A (r ∷ R)
+  pub begins : WithGap c h m v (begin s) A (r ∷ R)
   begins =
       let a = at-behind s A e in
       let i : length (headsOf (A ++ r ∷ R)) ≡ c .rows = heads-length (A ++ r ∷ R) ∙ sym (H .rows-are) in
@@ -175,7 +175,7 @@ module _ (c : Counts) (y : Pass) (B us : List Row) (G : Gaps c y B us) where
       }
 
 -- What `clear_block` leaves.
-module _ (d h m v : List ℕ) (c : Counts) (s : Stop) where
+module _ (d h m v : List ℕ) (c : Counts) (s : Position) where
   -- a test that fails for no tables that hold rows
   pub refused : (h′ m′ v′ : List ℕ)
       → ((k : List ℕ) (A R : List Row) (r : Row) → Holds (four h k m v) c (A ++ r ∷ R) → s ≡ behind A → ⊥) → Clears d h m v c s h′ m′ v′ c

@@ -17,14 +17,14 @@ use Rattle.tables.specs.Words.{marksAt, valuesAt, eachValue}
 use Rattle.tables.specs.Finds.{marks-in, values-in}
 use Rattle.tables.specs.declared.Counts.{Counts}
 use Rattle.clear.specs.declared.Cursor.{Cursor}
-use Rattle.clear.specs.Gapped.{Gapped}
+use Rattle.clear.specs.WithGap.{WithGap}
 use Rattle.clear.specs.Clear.{passing, In, ClearsRow}
 use Rattle.clear.proofs.Steps.{head-here, narrow-here, marks-room, values-room, marks-kept, values-kept, row-cleared}
 
 -- n marks and k values of the row were looked at
 module _ (d h m v : List ℕ) (p : Cursor) (S : In (passing h m v p)) (n k : ℕ)
     (a : n ≡ marksAt (getD h (p .row) 0)) (b : k ≡ valuesAt (getD h (p .row) 0)) where
-  module _ (c : Counts) (A us : List Row) (r : Row) (G : Gapped c h m v p A (r ∷ us)) where
+  module _ (c : Counts) (A us : List Row) (r : Row) (G : WithGap c h m v p A (r ∷ us)) where
     marks-looked : n ≡ length (r .marks)
     marks-looked = a ∙ (ap marksAt (head-here c h m v p A us r G) ∙ marks-in r (narrow-here c h m v p A us r G))
 
@@ -78,8 +78,8 @@ module _ (d h m v : List ℕ) (p : Cursor) (S : In (passing h m v p)) (n k : ℕ
     clears = go;
   }
     where
-      go : (c : Counts) (A us : List Row) (r : Row) → Gapped c h m v p A (r ∷ us)
-          → Gapped c (set h (p .row) (newHead to end (getD h (p .row) 0))) m′ v′ (beyond to end) (A ++ clearRow d r ∷ []) us
+      go : (c : Counts) (A us : List Row) (r : Row) → WithGap c h m v p A (r ∷ us)
+          → WithGap c (set h (p .row) (newHead to end (getD h (p .row) 0))) m′ v′ (beyond to end) (A ++ clearRow d r ∷ []) us
       go c A us r G =
           let x = marks-looked c A us r G in
           let y = values-looked c A us r G in

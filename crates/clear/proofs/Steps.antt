@@ -25,7 +25,7 @@ use Rattle.tables.specs.Parts.{marks-of-append, values-of-append, each-length, 
 use Rattle.tables.specs.Values.{strides-value, each-flat}
 use Rattle.tables.specs.declared.Counts.{Counts}
 use Rattle.clear.specs.declared.Cursor.{Cursor}
-use Rattle.clear.specs.Gapped.{Gapped}
+use Rattle.clear.specs.WithGap.{WithGap}
 
 -- K laid behind X, over words of the gap G and of B, of which it is a part: the gap is then what is left of the two.
 keep-gap : (X G B Y K : List ℕ) (to : ℕ) → length X ≡ to → length K ≤ length (G ++ B)
@@ -52,7 +52,7 @@ clear-head d r n =
     omega (arith, n .depth, side-small (r .spot), bit-small (r .map), bit-small (r .list))
 
 -- The row at the cursor.
-module _ (c : Counts) (h m v : List ℕ) (p : Cursor) (A us : List Row) (r : Row) (G : Gapped c h m v p A (r ∷ us)) where
+module _ (c : Counts) (h m v : List ℕ) (p : Cursor) (A us : List Row) (r : Row) (G : WithGap c h m v p A (r ∷ us)) where
   marks-behind : marksOf (r ∷ us) ≡ r .marks ++ marksOf us
   unfolding marksOf
   marks-behind = refl
@@ -162,7 +162,7 @@ module _ (c : Counts) (h m v : List ℕ) (p : Cursor) (A us : List Row) (r : Row
           value = p .value + length (r .values) * 6;
           valued = end;
         }
-        → Gapped c h′ m′ v′ q (A ++ clearRow d r ∷ []) us
+        → WithGap c h′ m′ v′ q (A ++ clearRow d r ∷ []) us
     unfolding gap′ gap-values′
     row-cleared h′ q e f =
         let a = ap length (marks-after d) ∙ length-append (marksOf A) (clearMarks d (r .marks)) in

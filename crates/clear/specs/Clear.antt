@@ -9,9 +9,9 @@ use Rattle.rows.specs.Blocks.{passed, rest, deeper, clearRow}
 use Rattle.tables.specs.Standing.{behind}
 use Rattle.tables.specs.Holding.{Holds, four}
 use Rattle.tables.specs.declared.Counts.{Counts}
-use Rattle.tables.specs.declared.Stop.{Stop}
+use Rattle.tables.specs.declared.Position.{Position}
 use Rattle.clear.specs.declared.Cursor.{Cursor}
-use Rattle.clear.specs.Gapped.{Within, Gapped}
+use Rattle.clear.specs.WithGap.{Within, WithGap}
 
 -- three tables that are changed, and a cursor in them
 pub record Pass : Type 0 where
@@ -24,7 +24,7 @@ abbrev pub passing : List ℕ → List ℕ → List ℕ → Cursor → Pass
 passing h m v p = record { heads = h; marks = m; values = v; at = p }
 
 abbrev pub Gaps : Counts → Pass → List Row → List Row → Type 0
-Gaps c x A us = Gapped c (x .heads) (x .marks) (x .values) (x .at) A us
+Gaps c x A us = WithGap c (x .heads) (x .marks) (x .values) (x .at) A us
 
 abbrev pub In : Pass → Type 0
 In x = Within (x .marks) (x .values) (x .at)
@@ -58,7 +58,7 @@ pub record ClearsPlace (d : List ℕ) (rows left : ℕ) (x y : Pass) : Type 0 wh
       → Gaps c y (A ++ clearRow d r ∷ map (clearRow d) (passed (deeper (r .depth)) us)) (rest (deeper (r .depth)) us)
 
 -- tables that hold rows hold them afterwards with the block at s cleared; h, m and v are the words before, h′, m′ and v′ those after
-pub record Clears (d h m v : List ℕ) (c : Counts) (s : Stop) (h′ m′ v′ : List ℕ) (e : Counts) : Type 0 where
+pub record Clears (d h m v : List ℕ) (c : Counts) (s : Position) (h′ m′ v′ : List ℕ) (e : Counts) : Type 0 where
   pub holds : (k : List ℕ) (A R : List Row) (r : Row) → Holds (four h k m v) c (A ++ r ∷ R) → s ≡ behind A
       → Holds (four h′ k m′ v′) e
       (A ++ clearRow d r ∷ (map (clearRow d) (passed (deeper (r .depth)) R) ++ rest (deeper (r .depth)) R))

@@ -20,7 +20,7 @@ pub record Within (m v : List ℕ) (p : Cursor) : Type 0 where
   pub values-high : p .value ≤ length v
 
 -- c counts the rows, and the words up to the last live one, gaps included
-pub record Gapped (c : Counts) (h m v : List ℕ) (p : Cursor) (A us : List Row) : Type 0 where
+pub record WithGap (c : Counts) (h m v : List ℕ) (p : Cursor) (A us : List Row) : Type 0 where
   pub gap : List ℕ
   pub gap-values : List ℕ
   pub heads : h ≡ headsOf (A ++ us) ++ replicate (headsRoom - c .rows) 0

@@ -1,2 +1,2 @@
-pub mod Gapped
+pub mod WithGap
 pub mod Clear

@@ -3,7 +3,7 @@
 // before them, and at the end what stands behind the block is moved once.
 use meaning::Counters;
 use tables::Counts;
-use tables::Stop;
+use tables::Position;
 use words::close;
 use words::keep_marks;
 use words::keep_values;
@@ -124,7 +124,7 @@ pub fn clear_block(
     marks: &mut [u64],
     values: &mut [u64],
     c: Counts,
-    s: Stop,
+    s: Position,
     d: Counters,
 ) -> Counts
     ensures { λ e. ⌜ Clears (d .at) (now (heads .entry)) (now (marks .entry)) (now (values .entry)) c s

@@ -140,8 +140,8 @@ pub fn repeated(seen: Counters, id: u64) -> bool
 }
 
 // 4: whether deps has less of the operation's own terminal than was seen.
-pub fn crossed(seen: Counters, id: u64, deps: Counters) -> bool
-    ensures { λ r. ⌜ Says (Judge.crossed (seen .at)) id (deps .at) r ⌝ }
+pub fn own_deps_behind(seen: Counters, id: u64, deps: Counters) -> bool
+    ensures { λ r. ⌜ Says (Judge.ownDepsBehind (seen .at)) id (deps .at) r ⌝ }
 {
     let n = id % 8;
     entry(deps, n) < entry(seen, n)

@@ -9,7 +9,7 @@ use lib.ListN.{length, getD}
 use Rattle.meaning.specs.Text.{width, decimal}
 use Rattle.theorems.specs.Decide.{Tri, less, same, more, tri}
 use Rattle.theorems.specs.Decimal.{width-sized, length-decimal, decimal-short}
-use Rattle.decimal.specs.Powers.{powersFrom, powers}
+use Rattle.decimal.specs.Powers.{powersFrom, powersOfTen}
 
 entries : (n k i : ℕ) → i < n → getD (powersFrom n k) i 0 ≡ 10 ^ (k + i)
 unfolding powersFrom
@@ -18,8 +18,8 @@ entries (suc n) k zero h = ap (λ m. 10 ^ m) (sym (add-zero k))
 entries (suc n) k (suc i) h = entries n (suc k) i (omega arith) ∙ ap (λ m. 10 ^ m) (suc-add k i ∙ sym (add-suc k i))
 
 -- entry k is 10 ^ k, in any list that is the table
-pub power : (t : List ℕ) (k : ℕ) → t ≡ powers → k < 20 → getD t k 0 ≡ 10 ^ k
-unfolding powers
+pub power : (t : List ℕ) (k : ℕ) → t ≡ powersOfTen → k < 20 → getD t k 0 ≡ 10 ^ k
+unfolding powersOfTen
 power t k e h = ap (λ l. getD l k 0) e ∙ (entries 20 0 k h ∙ ap (λ m. 10 ^ m) (zero-add k))
 
 -- n digits are those of v if v is below 10 ^ n, and not below 10 ^ (n - 1) unless n is 1

@@ -8,5 +8,5 @@ unfoldable pub powersFrom : ℕ → ℕ → List ℕ
 powersFrom zero k = []
 powersFrom (suc n) k = 10 ^ k ∷ powersFrom n (suc k)
 
-unfoldable pub powers : List ℕ
-powers = powersFrom 20 0
+unfoldable pub powersOfTen : List ℕ
+powersOfTen = powersFrom 20 0

@@ -5,7 +5,7 @@ ghost use Prim.Native.Nat.{_^_, _≤_, _<_};
 ghost use lib.ListN.{length};
 ghost use Rattle.meaning.specs.Text.{decimal};
 ghost use Rattle.decimal.specs.Take.{Wrote};
-ghost use Rattle.decimal.specs.Powers.{powers as powersOfTen};
+ghost use Rattle.decimal.specs.Powers.{powersOfTen};
 ghost use Rattle.decimal.specs.Numbers.{numbers, ReadsNumber, Spells};
 
 const POWERS: [u64; 20] = [
@@ -52,8 +52,8 @@ pub fn wide(x: u8) -> u64
 }
 
 // Whether a run of n digits with the value v is how v is written: it has the length that the table gives v.
-fn spelled(n: usize, v: u64, next: usize, t: &[u64; 20]) -> Number
-    requires { ⌜ (now t ≡ powersOfTen) × (v < 10 ^ n) ⌝ }
+fn spelled(n: usize, v: u64, next: usize, powers: &[u64; 20]) -> Number
+    requires { ⌜ (now powers ≡ powersOfTen) × (v < 10 ^ n) ⌝ }
     ensures { λ r. ⌜ Spells n v next r ⌝ }
 {
     if n == 1 {
@@ -65,15 +65,15 @@ fn spelled(n: usize, v: u64, next: usize, t: &[u64; 20]) -> Number
     if 20 < n {
         return Number::Bad;
     }
-    if v < t[n - 1] {
+    if v < powers[n - 1] {
         return Number::Bad;
     }
     Number::Value { value: v, next }
 }
 
 // The number at the place a, at most max, that no further digit follows. One pass over its digits.
-pub fn take_decimal(s: &[u8], a: usize, max: u64, t: &[u64; 20]) -> Number
-    requires { ⌜ now t ≡ powersOfTen ⌝ }
+pub fn take_decimal(s: &[u8], a: usize, max: u64, powers: &[u64; 20]) -> Number
+    requires { ⌜ now powers ≡ powersOfTen ⌝ }
     ensures { λ r. ⌜ ReadsNumber (numbers 0 max) (now (s .entry)) a r ⌝ }
 {
     let tenth = max / 10;
@@ -82,10 +82,10 @@ pub fn take_decimal(s: &[u8], a: usize, max: u64, t: &[u64; 20]) -> Number
     while i < s.len() {
         let b = s[i];
         if b < b'0' {
-            return spelled(i - a, v, i, t);
+            return spelled(i - a, v, i, powers);
         }
         if b'9' < b {
-            return spelled(i - a, v, i, t);
+            return spelled(i - a, v, i, powers);
         }
         if tenth < v {
             return Number::Bad;
@@ -98,15 +98,15 @@ pub fn take_decimal(s: &[u8], a: usize, max: u64, t: &[u64; 20]) -> Number
         v = w + d;
         i += 1;
     }
-    spelled(i - a, v, i, t)
+    spelled(i - a, v, i, powers)
 }
 
 // The same, from min on.
-pub fn take_between(s: &[u8], a: usize, min: u64, max: u64, t: &[u64; 20]) -> Number
-    requires { ⌜ now t ≡ powersOfTen ⌝ }
+pub fn take_between(s: &[u8], a: usize, min: u64, max: u64, powers: &[u64; 20]) -> Number
+    requires { ⌜ now powers ≡ powersOfTen ⌝ }
     ensures { λ r. ⌜ ReadsNumber (numbers min max) (now (s .entry)) a r ⌝ }
 {
-    let Number::Value { value, next } = take_decimal(s, a, max, t) else {
+    let Number::Value { value, next } = take_decimal(s, a, max, powers) else {
         return Number::Bad;
     };
     if value < min {
@@ -116,13 +116,13 @@ pub fn take_between(s: &[u8], a: usize, min: u64, max: u64, t: &[u64; 20]) -> Nu
 }
 
 // How many bytes v takes.
-pub fn decimal_size(v: u64, t: &[u64; 20]) -> usize
-    requires { ⌜ now t ≡ powersOfTen ⌝ }
+pub fn decimal_size(v: u64, powers: &[u64; 20]) -> usize
+    requires { ⌜ now powers ≡ powersOfTen ⌝ }
     ensures { λ r. ⌜ (r ≡ length (decimal v)) × (1 ≤ r) × (r ≤ 20) ⌝ }
 {
     let mut n: usize = 1;
     while n < 20 {
-        if v < t[n] {
+        if v < powers[n] {
             return n;
         }
         n += 1;
@@ -131,11 +131,11 @@ pub fn decimal_size(v: u64, t: &[u64; 20]) -> usize
 }
 
 // Writes v at the start of the buffer, from the last digit to the first.
-pub fn put_decimal(buf: &mut [u8], v: u64, t: &[u64; 20]) -> usize
-    requires { ⌜ (now t ≡ powersOfTen) × (length (decimal v) ≤ length (now buf)) ⌝ }
+pub fn put_decimal(buf: &mut [u8], v: u64, powers: &[u64; 20]) -> usize
+    requires { ⌜ (now powers ≡ powersOfTen) × (length (decimal v) ≤ length (now buf)) ⌝ }
     ensures { λ r. ⌜ Wrote (decimal v) (now (buf .entry)) (now (buf .exit)) r ⌝ }
 {
-    let n = decimal_size(v, t);
+    let n = decimal_size(v, powers);
     let mut x = v;
     let mut i = n;
     while 0 < i {

@@ -6,7 +6,7 @@ use mathlib.Core.Bool.{Bool, true, false, true≢false}
 use mathlib.Core.List.{List, [], _∷_, _++_, append-assoc}
 use Rattle.meaning.specs.Receive.{Terminal}
 use Rattle.tables.specs.Words.{Tables}
-use Rattle.stream.specs.Pieces.{Piece, whole, tooLong, pieces, held, Holds, Hands, Waits, Steps}
+use Rattle.stream.specs.Pieces.{Piece, whole, tooLong, pieces, held, CutInside, Hands, Waits, Steps}
 use Rattle.stream.specs.declared.Cut.{Cut}
 use Rattle.stream.specs.declared.Step.{Step}
 use Rattle.stream.specs.declared.Step.the-variants.{Message, TooLong, More}
@@ -21,7 +21,7 @@ takes-on none r = r
 takes-on (receives a h r) q = receives a h (takes-on r q)
 takes-on (passes r) q = passes (takes-on r q)
 
-pub feeds-none : (T : Tables) (t : List ℕ) (s : State) (b : List ℕ) (c : Cut) (last : Bool) → Holds b c → Feeds T t s b c last T t s c
+pub feeds-none : (T : Tables) (t : List ℕ) (s : State) (b : List ℕ) (c : Cut) (last : Bool) → CutInside b c → Feeds T t s b c last T t s c
 feeds-none T t s b c last h = record {
   holds = h;
   same = refl;

@@ -9,7 +9,7 @@ use Rattle.meaning.specs.Receive.{Terminal}
 use Rattle.meaning.specs.Promises.{Receives}
 use Rattle.meaning.specs.declared.Receipt.{Receipt}
 use Rattle.tables.specs.Words.{Tables}
-use Rattle.stream.specs.Pieces.{Piece, whole, tooLong, pieces, held, Holds}
+use Rattle.stream.specs.Pieces.{Piece, whole, tooLong, pieces, held, CutInside}
 use Rattle.stream.specs.declared.Cut.{Cut}
 use Rattle.terminal.specs.Keeping.{Keeps}
 use Rattle.terminal.specs.declared.State.{State}
@@ -32,7 +32,7 @@ pub record Took (X : Terminal) (ps : List Piece) (U : Tables) (t : List ℕ) (s 
 -- From one memory, state and cut to others: some pieces are handed over and taken, and the rest of the stream stands from the new cut on.
 pub record Feeds (T : Tables) (t : List ℕ) (s : State) (b : List ℕ) (c : Cut) (last : Bool)
     (U : Tables) (t′ : List ℕ) (s′ : State) (c′ : Cut) : Type 0 where
-  pub holds : Holds b c′
+  pub holds : CutInside b c′
   pub same : c′ .to ≡ c .to
   pub handed : List Piece
   pub rest : (more : List ℕ) → (last ≡ true → more ≡ [])

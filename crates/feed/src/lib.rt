@@ -5,7 +5,7 @@ use stream::Step;
 use terminal::State;
 ghost use mathlib.Core.Path.{_≡_};
 ghost use Rattle.tables.specs.Holding.{four};
-ghost use Rattle.stream.specs.Pieces.{Holds};
+ghost use Rattle.stream.specs.Pieces.{CutInside};
 ghost use Rattle.feed.specs.Feeding.{OneFed, AllFed};
 
 // The terminal's state, and where the stream goes on.
@@ -33,7 +33,7 @@ fn take_one(
     c: Cut,
     last: bool,
 ) -> One
-    requires { ⌜ Holds (now buf) c ⌝ }
+    requires { ⌜ CutInside (now buf) c ⌝ }
     ensures { λ r. ⌜ OneFed (four (now (heads .entry)) (now (keys .entry)) (now (marks .entry)) (now (values .entry)))
         (now (waiting .entry)) s (now (buf .entry)) c last r
         (four (now (heads .exit)) (now (keys .exit)) (now (marks .exit)) (now (values .exit))) (now (waiting .exit)) ⌝ }
@@ -75,7 +75,7 @@ pub fn take_in(
     c: Cut,
     last: bool,
 ) -> Fed
-    requires { ⌜ Holds (now buf) c ⌝ }
+    requires { ⌜ CutInside (now buf) c ⌝ }
     ensures { λ r. ⌜ AllFed (four (now (heads .entry)) (now (keys .entry)) (now (marks .entry)) (now (values .entry)))
         (now (waiting .entry)) s (now (buf .entry)) c last r
         (four (now (heads .exit)) (now (keys .exit)) (now (marks .exit)) (now (values .exit))) (now (waiting .exit)) ⌝ }

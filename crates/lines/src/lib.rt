@@ -22,7 +22,7 @@ ghost use Prim.Native.Nat.{_+_, _≤_};
 ghost use lib.ListN.{length};
 ghost use Rattle.meaning.specs.Sheet.{flagsText, spotText, lineText, seenLine, placeLine, markLine, valueLine, endLine};
 ghost use Rattle.decimal.specs.Take.{Wrote};
-ghost use Rattle.decimal.specs.Powers.{powers};
+ghost use Rattle.decimal.specs.Powers.{powersOfTen};
 ghost use Rattle.writers.specs.Wrote.{WroteAt};
 ghost use Rattle.writers.specs.Sized.{Sized};
 ghost use Rattle.writers.specs.Words.{bytesOf};
@@ -46,22 +46,28 @@ pub fn put_key_row(buf: &mut [u8], hi: u64, lo: u64, len: u64) -> usize
 }
 
 // Writes an element id as it is read, with an LF.
-pub fn put_id_row(buf: &mut [u8], id: u64, t: &[u64; 20]) -> usize
-    requires { ⌜ (now t ≡ powers) × (length (idRow id) ≤ length (now buf)) ⌝ }
+pub fn put_id_row(buf: &mut [u8], id: u64, powers: &[u64; 20]) -> usize
+    requires { ⌜ (now powers ≡ powersOfTen) × (length (idRow id) ≤ length (now buf)) ⌝ }
     ensures { λ r. ⌜ Wrote (idRow id) (now (buf .entry)) (now (buf .exit)) r ⌝ }
 {
-    let a = put_id(buf, id, t);
+    let a = put_id(buf, id, powers);
     then_text(buf, a, b"\n")
 }
 
 // Writes a value as it is read: its id and the plain value, with an LF.
-pub fn put_value_row(buf: &mut [u8], id: u64, kind: Kind, words: [u64; 4], t: &[u64; 20]) -> usize
-    requires { ⌜ (now t ≡ powers) × InBounds kind × (length (valueRow (valueOf id kind words)) ≤ length (now buf)) ⌝ }
+pub fn put_value_row(
+    buf: &mut [u8],
+    id: u64,
+    kind: Kind,
+    words: [u64; 4],
+    powers: &[u64; 20],
+) -> usize
+    requires { ⌜ (now powers ≡ powersOfTen) × InBounds kind × (length (valueRow (valueOf id kind words)) ≤ length (now buf)) ⌝ }
     ensures { λ r. ⌜ Wrote (valueRow (valueOf id kind words)) (now (buf .entry)) (now (buf .exit)) r ⌝ }
 {
-    let a = put_id(buf, id, t);
+    let a = put_id(buf, id, powers);
     let b = then_text(buf, a, b":");
-    let c = then_plain(buf, b, kind, words, t);
+    let c = then_plain(buf, b, kind, words, powers);
     then_text(buf, c, b"\n")
 }
 
@@ -71,62 +77,68 @@ fn then_value_row(
     id: u64,
     kind: Kind,
     words: [u64; 4],
-    t: &[u64; 20],
+    powers: &[u64; 20],
 ) -> usize
-    requires { ⌜ (now t ≡ powers) × InBounds kind × (at + length (valueRow (valueOf id kind words)) ≤ length (now buf)) ⌝ }
+    requires { ⌜ (now powers ≡ powersOfTen) × InBounds kind × (at + length (valueRow (valueOf id kind words)) ≤ length (now buf)) ⌝ }
     ensures { λ r. ⌜ WroteAt (valueRow (valueOf id kind words)) at (now (buf .entry)) (now (buf .exit)) r ⌝ }
 {
-    at + put_value_row(&mut buf[at..], id, kind, words, t)
+    at + put_value_row(&mut buf[at..], id, kind, words, powers)
 }
 
 // The lines of a sheet: what was seen.
-pub fn put_seen_line(buf: &mut [u8], seen: Counters, t: &[u64; 20]) -> usize
-    requires { ⌜ (now t ≡ powers) × (length (lineText (seenLine (seen .at))) ≤ length (now buf)) ⌝ }
+pub fn put_seen_line(buf: &mut [u8], seen: Counters, powers: &[u64; 20]) -> usize
+    requires { ⌜ (now powers ≡ powersOfTen) × (length (lineText (seenLine (seen .at))) ≤ length (now buf)) ⌝ }
     ensures { λ r. ⌜ Wrote (lineText (seenLine (seen .at))) (now (buf .entry)) (now (buf .exit)) r ⌝ }
 {
     let a = put_text(buf, b"seen=");
-    let b = then_counters(buf, a, seen, t);
+    let b = then_counters(buf, a, seen, powers);
     then_text(buf, b, b"\n")
 }
 
 // A mark.
-pub fn put_mark_line(buf: &mut [u8], id: u64, t: &[u64; 20]) -> usize
-    requires { ⌜ (now t ≡ powers) × (length (lineText (markLine id)) ≤ length (now buf)) ⌝ }
+pub fn put_mark_line(buf: &mut [u8], id: u64, powers: &[u64; 20]) -> usize
+    requires { ⌜ (now powers ≡ powersOfTen) × (length (lineText (markLine id)) ≤ length (now buf)) ⌝ }
     ensures { λ r. ⌜ Wrote (lineText (markLine id)) (now (buf .entry)) (now (buf .exit)) r ⌝ }
 {
     let a = put_text(buf, b"mark=");
-    let b = then_id(buf, a, id, t);
+    let b = then_id(buf, a, id, powers);
     then_text(buf, b, b"\n")
 }
 
 // A value.
-pub fn put_value_line(buf: &mut [u8], id: u64, kind: Kind, words: [u64; 4], t: &[u64; 20]) -> usize
-    requires { ⌜ (now t ≡ powers) × InBounds kind × (length (lineText (valueLine (valueOf id kind words))) ≤ length (now buf)) ⌝ }
+pub fn put_value_line(
+    buf: &mut [u8],
+    id: u64,
+    kind: Kind,
+    words: [u64; 4],
+    powers: &[u64; 20],
+) -> usize
+    requires { ⌜ (now powers ≡ powersOfTen) × InBounds kind × (length (lineText (valueLine (valueOf id kind words))) ≤ length (now buf)) ⌝ }
     ensures { λ r. ⌜ Wrote (lineText (valueLine (valueOf id kind words))) (now (buf .entry)) (now (buf .exit)) r ⌝ }
 {
     let a = put_text(buf, b"value=");
-    then_value_row(buf, a, id, kind, words, t)
+    then_value_row(buf, a, id, kind, words, powers)
 }
 
 // The end, with the number of places.
-pub fn put_end_line(buf: &mut [u8], places: u64, t: &[u64; 20]) -> usize
-    requires { ⌜ (now t ≡ powers) × (length (lineText (endLine places)) ≤ length (now buf)) ⌝ }
+pub fn put_end_line(buf: &mut [u8], places: u64, powers: &[u64; 20]) -> usize
+    requires { ⌜ (now powers ≡ powersOfTen) × (length (lineText (endLine places)) ≤ length (now buf)) ⌝ }
     ensures { λ r. ⌜ Wrote (lineText (endLine places)) (now (buf .entry)) (now (buf .exit)) r ⌝ }
 {
     let a = put_text(buf, b"end=");
-    let b = then_decimal(buf, a, places, t);
+    let b = then_decimal(buf, a, places, powers);
     then_text(buf, b, b"\n")
 }
 
 // A message's lines ahead of `at=`.
-pub fn put_message_head(buf: &mut [u8], id: u64, deps: Counters, t: &[u64; 20]) -> usize
-    requires { ⌜ (now t ≡ powers) × (length (messageHead id (deps .at)) ≤ length (now buf)) ⌝ }
+pub fn put_message_head(buf: &mut [u8], id: u64, deps: Counters, powers: &[u64; 20]) -> usize
+    requires { ⌜ (now powers ≡ powersOfTen) × (length (messageHead id (deps .at)) ≤ length (now buf)) ⌝ }
     ensures { λ r. ⌜ Wrote (messageHead id (deps .at)) (now (buf .entry)) (now (buf .exit)) r ⌝ }
 {
     let a = put_text(buf, b"op=1\nid=");
-    let b = then_id(buf, a, id, t);
+    let b = then_id(buf, a, id, powers);
     let c = then_text(buf, b, b"\ndeps=");
-    let d = then_counters(buf, c, deps, t);
+    let d = then_counters(buf, c, deps, powers);
     then_text(buf, d, b"\n")
 }
 
@@ -142,8 +154,8 @@ fn flag(map: bool, list: bool) -> u8
 }
 
 // Writes the parent's branch, the flags, and the key or the element id.
-fn put_spot(buf: &mut [u8], spot: Spot, map: bool, list: bool, t: &[u64; 20]) -> usize
-    requires { ⌜ (now t ≡ powers) × ShortKey spot × (length (spotText (spotOf spot) (flagsText map list)) ≤ length (now buf)) ⌝ }
+fn put_spot(buf: &mut [u8], spot: Spot, map: bool, list: bool, powers: &[u64; 20]) -> usize
+    requires { ⌜ (now powers ≡ powersOfTen) × ShortKey spot × (length (spotText (spotOf spot) (flagsText map list)) ≤ length (now buf)) ⌝ }
     ensures { λ r. ⌜ Wrote (spotText (spotOf spot) (flagsText map list)) (now (buf .entry)) (now (buf .exit)) r ⌝ }
 {
     match spot {
@@ -156,16 +168,23 @@ fn put_spot(buf: &mut [u8], spot: Spot, map: bool, list: bool, t: &[u64; 20]) ->
         Spot::Element { id } => {
             let lead = [b'[', flag(map, list)];
             let a = put_text(buf, &lead);
-            then_id(buf, a, id, t)
+            then_id(buf, a, id, powers)
         }
     }
 }
 
-fn then_spot(buf: &mut [u8], at: usize, spot: Spot, map: bool, list: bool, t: &[u64; 20]) -> usize
-    requires { ⌜ (now t ≡ powers) × ShortKey spot × (at + length (spotText (spotOf spot) (flagsText map list)) ≤ length (now buf)) ⌝ }
+fn then_spot(
+    buf: &mut [u8],
+    at: usize,
+    spot: Spot,
+    map: bool,
+    list: bool,
+    powers: &[u64; 20],
+) -> usize
+    requires { ⌜ (now powers ≡ powersOfTen) × ShortKey spot × (at + length (spotText (spotOf spot) (flagsText map list)) ≤ length (now buf)) ⌝ }
     ensures { λ r. ⌜ WroteAt (spotText (spotOf spot) (flagsText map list)) at (now (buf .entry)) (now (buf .exit)) r ⌝ }
 {
-    at + put_spot(&mut buf[at..], spot, map, list, t)
+    at + put_spot(&mut buf[at..], spot, map, list, powers)
 }
 
 // A place.
@@ -175,14 +194,14 @@ pub fn put_place_line(
     spot: Spot,
     map: bool,
     list: bool,
-    t: &[u64; 20],
+    powers: &[u64; 20],
 ) -> usize
-    requires { ⌜ (now t ≡ powers) × ShortKey spot × (length (lineText (placeLine depth (spotOf spot) map list)) ≤ length (now buf)) ⌝ }
+    requires { ⌜ (now powers ≡ powersOfTen) × ShortKey spot × (length (lineText (placeLine depth (spotOf spot) map list)) ≤ length (now buf)) ⌝ }
     ensures { λ r. ⌜ Wrote (lineText (placeLine depth (spotOf spot) map list)) (now (buf .entry)) (now (buf .exit)) r ⌝ }
 {
     let a = put_text(buf, b"place=");
-    let b = then_decimal(buf, a, depth, t);
-    let c = then_spot(buf, b, spot, map, list, t);
+    let b = then_decimal(buf, a, depth, powers);
+    let c = then_spot(buf, b, spot, map, list, powers);
     then_text(buf, c, b"\n")
 }
 
@@ -195,68 +214,68 @@ pub fn key_row_size(hi: u64, lo: u64, len: u64) -> usize
     2 * (len as usize) + 1
 }
 
-pub fn id_row_size(id: u64, t: &[u64; 20]) -> usize
-    requires { ⌜ now t ≡ powers ⌝ }
+pub fn id_row_size(id: u64, powers: &[u64; 20]) -> usize
+    requires { ⌜ now powers ≡ powersOfTen ⌝ }
     ensures { λ r. ⌜ Sized (idRow id) 42 r ⌝ }
 {
-    id_size(id, t) + 1
+    id_size(id, powers) + 1
 }
 
-pub fn value_row_size(id: u64, kind: Kind, words: [u64; 4], t: &[u64; 20]) -> usize
-    requires { ⌜ (now t ≡ powers) × InBounds kind ⌝ }
+pub fn value_row_size(id: u64, kind: Kind, words: [u64; 4], powers: &[u64; 20]) -> usize
+    requires { ⌜ (now powers ≡ powersOfTen) × InBounds kind ⌝ }
     ensures { λ r. ⌜ Sized (valueRow (valueOf id kind words)) 108 r ⌝ }
 {
-    id_size(id, t) + 2 + plain_size(kind, words, t)
+    id_size(id, powers) + 2 + plain_size(kind, words, powers)
 }
 
-pub fn seen_line_size(seen: Counters, t: &[u64; 20]) -> usize
-    requires { ⌜ now t ≡ powers ⌝ }
+pub fn seen_line_size(seen: Counters, powers: &[u64; 20]) -> usize
+    requires { ⌜ now powers ≡ powersOfTen ⌝ }
     ensures { λ r. ⌜ Sized (lineText (seenLine (seen .at))) 173 r ⌝ }
 {
-    6 + counters_size(seen, t)
+    6 + counters_size(seen, powers)
 }
 
-pub fn mark_line_size(id: u64, t: &[u64; 20]) -> usize
-    requires { ⌜ now t ≡ powers ⌝ }
+pub fn mark_line_size(id: u64, powers: &[u64; 20]) -> usize
+    requires { ⌜ now powers ≡ powersOfTen ⌝ }
     ensures { λ r. ⌜ Sized (lineText (markLine id)) 47 r ⌝ }
 {
-    6 + id_size(id, t)
+    6 + id_size(id, powers)
 }
 
-pub fn value_line_size(id: u64, kind: Kind, words: [u64; 4], t: &[u64; 20]) -> usize
-    requires { ⌜ (now t ≡ powers) × InBounds kind ⌝ }
+pub fn value_line_size(id: u64, kind: Kind, words: [u64; 4], powers: &[u64; 20]) -> usize
+    requires { ⌜ (now powers ≡ powersOfTen) × InBounds kind ⌝ }
     ensures { λ r. ⌜ Sized (lineText (valueLine (valueOf id kind words))) 114 r ⌝ }
 {
-    6 + value_row_size(id, kind, words, t)
+    6 + value_row_size(id, kind, words, powers)
 }
 
-fn spot_size(spot: Spot, t: &[u64; 20]) -> usize
-    requires { ⌜ (now t ≡ powers) × ShortKey spot ⌝ }
+fn spot_size(spot: Spot, powers: &[u64; 20]) -> usize
+    requires { ⌜ (now powers ≡ powersOfTen) × ShortKey spot ⌝ }
     ensures { λ r. ⌜ SpotSized spot r ⌝ }
 {
     match spot {
         Spot::Key { hi: _, lo: _, len } => 2 + 2 * (len as usize),
-        Spot::Element { id } => 2 + id_size(id, t),
+        Spot::Element { id } => 2 + id_size(id, powers),
     }
 }
 
-pub fn place_line_size(depth: u64, spot: Spot, map: bool, list: bool, t: &[u64; 20]) -> usize
-    requires { ⌜ (now t ≡ powers) × ShortKey spot ⌝ }
+pub fn place_line_size(depth: u64, spot: Spot, map: bool, list: bool, powers: &[u64; 20]) -> usize
+    requires { ⌜ (now powers ≡ powersOfTen) × ShortKey spot ⌝ }
     ensures { λ r. ⌜ Sized (lineText (placeLine depth (spotOf spot) map list)) 70 r ⌝ }
 {
-    decimal_size(depth, t) + 7 + spot_size(spot, t)
+    decimal_size(depth, powers) + 7 + spot_size(spot, powers)
 }
 
-pub fn end_line_size(places: u64, t: &[u64; 20]) -> usize
-    requires { ⌜ now t ≡ powers ⌝ }
+pub fn end_line_size(places: u64, powers: &[u64; 20]) -> usize
+    requires { ⌜ now powers ≡ powersOfTen ⌝ }
     ensures { λ r. ⌜ Sized (lineText (endLine places)) 25 r ⌝ }
 {
-    5 + decimal_size(places, t)
+    5 + decimal_size(places, powers)
 }
 
-pub fn message_head_size(id: u64, deps: Counters, t: &[u64; 20]) -> usize
-    requires { ⌜ now t ≡ powers ⌝ }
+pub fn message_head_size(id: u64, deps: Counters, powers: &[u64; 20]) -> usize
+    requires { ⌜ now powers ≡ powersOfTen ⌝ }
     ensures { λ r. ⌜ Sized (messageHead id (deps .at)) 223 r ⌝ }
 {
-    15 + id_size(id, t) + counters_size(deps, t)
+    15 + id_size(id, powers) + counters_size(deps, powers)
 }

@@ -18,8 +18,8 @@ unfoldable pub repeated : List ℕ → Operation → Bool
 repeated s o = leb (counterOf (o .id)) (entry s (entryOf (o .id)))
 
 -- 4: own deps entry below seen entry r
-unfoldable pub crossed : List ℕ → Operation → Bool
-crossed s o = ltb (entry (o .deps) (entryOf (o .id))) (entry s (entryOf (o .id)))
+unfoldable pub ownDepsBehind : List ℕ → Operation → Bool
+ownDepsBehind s o = ltb (entry (o .deps) (entryOf (o .id))) (entry s (entryOf (o .id)))
 
 -- the place under a key; an unknown one is bare, as it would be made
 unfoldable pub look : List ℕ → Children → Place
@@ -40,17 +40,17 @@ find e empty = unknown
 find e (element j c es) = elim (eqb e j) [ true ↦ found c | false ↦ find e es ]
 
 -- each element id on the way is covered by deps and an element of that list
-unfoldable pub led : List ℕ → Way → Place → Bool
-led d (assign a) c = true
-led d delete c = true
-led d (insert head a) c = true
-led d (insert (after e) a) c = covered d e && isFound (find e (elementsOf c))
-led d (intoMap k w) c = led d w (look k (childrenOf c))
-led d (intoList e w) c = covered d e && elim (find e (elementsOf c)) [ found x ↦ led d w x | unknown ↦ false ]
+unfoldable pub elementsFound : List ℕ → Way → Place → Bool
+elementsFound d (assign a) c = true
+elementsFound d delete c = true
+elementsFound d (insert head a) c = true
+elementsFound d (insert (after e) a) c = covered d e && isFound (find e (elementsOf c))
+elementsFound d (intoMap k w) c = elementsFound d w (look k (childrenOf c))
+elementsFound d (intoList e w) c = covered d e && elim (find e (elementsOf c)) [ found x ↦ elementsFound d w x | unknown ↦ false ]
 
 -- 8: an element id in the way isn't covered by deps, or isn't an element of that list
 unfoldable pub astray : Document → Operation → Bool
-astray D o = not (led (o .deps) (o .way) (look (o .top) (D .root)))
+astray D o = not (elementsFound (o .deps) (o .way) (look (o .top) (D .root)))
 
 -- an insert comes after the head, or after an element whose id is smaller
 unfoldable pub upward : ℕ → Way → Bool

@@ -11,7 +11,7 @@ use Rattle.meaning.specs.Places.{Document}
 use Rattle.meaning.specs.Ways.{Operation}
 use Rattle.meaning.specs.Apply.{apply, emptyDocument}
 use Rattle.meaning.specs.Limits.{fits}
-use Rattle.meaning.specs.Judge.{notAbove, repeated, crossed, astray, downward}
+use Rattle.meaning.specs.Judge.{notAbove, repeated, ownDepsBehind, astray, downward}
 use Rattle.meaning.specs.declared.Receipt.{Receipt}
 use Rattle.meaning.specs.declared.Receipt.the-variants as R
 
@@ -30,7 +30,7 @@ readyIn D o = ready (D .seen) (o .id) (o .deps)
 
 -- a waiting message that is dropped: it is now 3, 4 or (ready) 8 or 9
 unfoldable pub dead : Document → Operation → Bool
-dead D o = repeated (D .seen) o || crossed (D .seen) o || (readyIn D o && (astray D o || downward o))
+dead D o = repeated (D .seen) o || ownDepsBehind (D .seen) o || (readyIn D o && (astray D o || downward o))
 
 -- one that can be applied: it is ready, and 10 doesn't stop it
 unfoldable pub able : Document → Operation → Bool
@@ -100,7 +100,7 @@ judge o T =
     let D = T .document in
     cond (notAbove o) (refused R.Counter)
     (cond (repeated (D .seen) o) (refused R.Repeat)
-    (cond (crossed (D .seen) o) (refused R.OwnDeps)
+    (cond (ownDepsBehind (D .seen) o) (refused R.OwnDeps)
     (cond (readyIn D o) (judgeReady o D) (judgeEarly o (T .waiting)))))
 
 -- what receiving comes to: the answer, the terminal, and the operations applied in their order

@@ -20,7 +20,7 @@ use Rattle.meaning.specs.Clear.{clearMarks, clearValues, clear}
 use Rattle.meaning.specs.Apply.{mark, dropValues, addValue, onMap, onList, give, atKey, atElement, stepOn, stepFrom, insertAfter}
 use Rattle.meaning.specs.Apply.{passing, run, change, apply}
 use Rattle.meaning.specs.Limits.{size, within, fits}
-use Rattle.meaning.specs.Judge.{notAbove, repeated, crossed, look, find, led, astray, upward, downward}
+use Rattle.meaning.specs.Judge.{notAbove, repeated, ownDepsBehind, look, find, elementsFound, astray, upward, downward}
 use Rattle.meaning.specs.Answers.{Answer, receiptAnswer}
 use Rattle.meaning.specs.Members.{All}
 use Rattle.meaning.specs.Receive.{Terminal, newTerminal, receive, dead, able, first, without, onward, settleIn, settle}
@@ -285,7 +285,7 @@ computed : map shown plays ≡ map wanted table
 unfolding play ok okId okKey okPlain okAssigned okPrev okWay okEdit okCounters
     covered atMost allBelow ready keep smaller greater put order steps deletes makes clearMarks clearValues clear
     mark dropValues addValue onMap onList give atKey atElement stepOn stepFrom insertAfter passing run change apply
-    size within fits notAbove repeated crossed look find led astray upward downward
+    size within fits notAbove repeated ownDepsBehind look find elementsFound astray upward downward
     receive dead able first without onward settleIn settle waits judgeReady judgeEarly judge finish
     digits widthFrom width decimal integerText idText commaText countersText hexDigit hex plainText assignedText
     prevText stepsText doText editText message rows rowsOf spotText lineText linesText rowLines rowsLines sheetLines sheet

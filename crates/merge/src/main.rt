@@ -1,4 +1,4 @@
 // The program `merge` of document 01. The gate runs it on the five messages of document 01.
 fn main() {
-    merging::merge();
+    merge_run::merge();
 }

@@ -9,7 +9,7 @@ use readers::Past;
 ghost use mathlib.Core.Path.{_≡_};
 ghost use mathlib.Core.Bool.{false};
 ghost use lib.ListN.{drop};
-ghost use Rattle.decimal.specs.Powers.{powers};
+ghost use Rattle.decimal.specs.Powers.{powersOfTen};
 ghost use Rattle.message.specs.Reads.{until, ReadsValueLine, ReadsDeed, suits};
 ghost use Rattle.message.specs.Promises.{ReadsEdit};
 
@@ -28,11 +28,11 @@ fn ended(v: GivenRead, ok: bool, next: usize) -> GivenRead
 }
 
 // A value, and the end of its line.
-fn take_value_line(s: &[u8], a: usize, t: &[u64; 20]) -> GivenRead
-    requires { ⌜ now t ≡ powers ⌝ }
+fn take_value_line(s: &[u8], a: usize, powers: &[u64; 20]) -> GivenRead
+    requires { ⌜ now powers ≡ powersOfTen ⌝ }
     ensures { λ r. ⌜ ReadsValueLine (now (s .entry)) a r ⌝ }
 {
-    let v = readers::take_assigned(s, a, t);
+    let v = readers::take_assigned(s, a, powers);
     if !v.ok {
         return v;
     }
@@ -44,12 +44,12 @@ fn take_value_line(s: &[u8], a: usize, t: &[u64; 20]) -> GivenRead
 }
 
 // The lines behind the way: what is done, and the value.
-fn take_deed(s: &[u8], a: usize, t: &[u64; 20]) -> DeedRead
-    requires { ⌜ now t ≡ powers ⌝ }
+fn take_deed(s: &[u8], a: usize, powers: &[u64; 20]) -> DeedRead
+    requires { ⌜ now powers ≡ powersOfTen ⌝ }
     ensures { λ r. ⌜ ReadsDeed (now (s .entry)) a r ⌝ }
 {
     if let Past::At(n) = readers::take_text(s, a, b"do=assign\nvalue=") {
-        let v = take_value_line(s, n, t);
+        let v = take_value_line(s, n, powers);
         let given = v.given;
         let words = v.words;
         return DeedRead {
@@ -60,7 +60,7 @@ fn take_deed(s: &[u8], a: usize, t: &[u64; 20]) -> DeedRead
         };
     }
     if let Past::At(n) = readers::take_text(s, a, b"do=insert\nvalue=") {
-        let v = take_value_line(s, n, t);
+        let v = take_value_line(s, n, powers);
         let given = v.given;
         let words = v.words;
         return DeedRead {
@@ -112,14 +112,14 @@ pub fn no_edit() -> EditRead
 }
 
 // The lines of an edit from a place on, to the end.
-pub fn edit_at(s: &[u8], a: usize, t: &[u64; 20]) -> EditRead
-    requires { ⌜ now t ≡ powers ⌝ }
+pub fn edit_at(s: &[u8], a: usize, powers: &[u64; 20]) -> EditRead
+    requires { ⌜ now powers ≡ powersOfTen ⌝ }
     ensures { λ r. ⌜ ReadsEdit (drop a (now (s .entry))) r ⌝ }
 {
     let Past::At(n) = readers::take_text(s, a, b"at=") else {
         return no_edit();
     };
-    let w = take_way(s, n, t);
+    let w = take_way(s, n, powers);
     if !w.ok {
         return no_edit();
     }
@@ -127,7 +127,7 @@ pub fn edit_at(s: &[u8], a: usize, t: &[u64; 20]) -> EditRead
     let Past::At(o) = readers::take_byte(s, m, b'\n') else {
         return no_edit();
     };
-    let d = take_deed(s, o, t);
+    let d = take_deed(s, o, powers);
     if !d.ok {
         return no_edit();
     }
@@ -152,6 +152,6 @@ pub fn edit_at(s: &[u8], a: usize, t: &[u64; 20]) -> EditRead
 pub fn take_edit(s: &[u8]) -> EditRead
     ensures { λ r. ⌜ ReadsEdit (now (s .entry)) r ⌝ }
 {
-    let t = decimal::powers();
-    edit_at(s, 0, &t)
+    let powers = decimal::powers();
+    edit_at(s, 0, &powers)
 }

@@ -15,7 +15,7 @@ pub use ways::take_keys_way;
 pub use ways::take_place_way;
 ghost use mathlib.Core.Path.{_≡_};
 ghost use mathlib.Core.Bool.{false};
-ghost use Rattle.decimal.specs.Powers.{powers};
+ghost use Rattle.decimal.specs.Powers.{powersOfTen};
 ghost use Rattle.message.specs.Reads.{ReadsHead};
 ghost use Rattle.message.specs.Promises.{ReadsMessage};
 
@@ -107,20 +107,20 @@ fn no_head() -> HeadRead
 }
 
 // A message's lines ahead of `at=`.
-fn take_head(s: &[u8], t: &[u64; 20]) -> HeadRead
-    requires { ⌜ now t ≡ powers ⌝ }
+fn take_head(s: &[u8], powers: &[u64; 20]) -> HeadRead
+    requires { ⌜ now powers ≡ powersOfTen ⌝ }
     ensures { λ r. ⌜ ReadsHead (now (s .entry)) r ⌝ }
 {
     let Past::At(n) = readers::take_text(s, 0, b"op=1\nid=") else {
         return no_head();
     };
-    let IdRead::Found { id, next: m } = readers::take_id(s, n, t) else {
+    let IdRead::Found { id, next: m } = readers::take_id(s, n, powers) else {
         return no_head();
     };
     let Past::At(o) = readers::take_text(s, m, b"\ndeps=") else {
         return no_head();
     };
-    let d = readers::take_counters(s, o, t);
+    let d = readers::take_counters(s, o, powers);
     if !d.ok {
         return no_head();
     }
@@ -141,8 +141,8 @@ fn take_head(s: &[u8], t: &[u64; 20]) -> HeadRead
 pub fn take_message(s: &[u8]) -> MessageRead
     ensures { λ r. ⌜ ReadsMessage (now (s .entry)) r ⌝ }
 {
-    let t = decimal::powers();
-    let h = take_head(s, &t);
+    let powers = decimal::powers();
+    let h = take_head(s, &powers);
     let deps = h.deps;
     if !h.ok {
         let x = no_edit();
@@ -161,7 +161,7 @@ pub fn take_message(s: &[u8]) -> MessageRead
         };
     }
     let n = h.next;
-    let x = edit_at(s, n, &t);
+    let x = edit_at(s, n, &powers);
     let way = x.way;
     let deed = x.deed;
     let words = x.words;

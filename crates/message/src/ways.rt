@@ -7,7 +7,7 @@ use readers::IdRead;
 use readers::Past;
 ghost use mathlib.Core.Path.{_≡_};
 ghost use mathlib.Core.Bool.{false};
-ghost use Rattle.decimal.specs.Powers.{powers};
+ghost use Rattle.decimal.specs.Powers.{powersOfTen};
 ghost use Rattle.message.specs.Reads.{ReadsStep, ReadsKeyStep, ReadsListStep, ReadsWay};
 ghost use Rattle.message.specs.Promises.{ReadsPlaceWay, ReadsKeysWay, ReadsElementWay};
 
@@ -28,12 +28,12 @@ fn take_key_step(s: &[u8], a: usize) -> StepRead
 }
 
 // The element id or `^` behind `[`.
-fn take_list_step(s: &[u8], a: usize, t: &[u64; 20]) -> StepRead
-    requires { ⌜ now t ≡ powers ⌝ }
+fn take_list_step(s: &[u8], a: usize, powers: &[u64; 20]) -> StepRead
+    requires { ⌜ now powers ≡ powersOfTen ⌝ }
     ensures { λ r. ⌜ ReadsListStep (now (s .entry)) a r ⌝ }
 {
     let Past::At(next) = readers::take_byte(s, a, b'^') else {
-        let IdRead::Found { id, next } = readers::take_id(s, a, t) else {
+        let IdRead::Found { id, next } = readers::take_id(s, a, powers) else {
             return StepRead::Bad;
         };
         return StepRead::Step {
@@ -52,8 +52,8 @@ fn take_list_step(s: &[u8], a: usize, t: &[u64; 20]) -> StepRead
 }
 
 // A step of a way, or its end.
-fn take_step(s: &[u8], a: usize, t: &[u64; 20]) -> StepRead
-    requires { ⌜ now t ≡ powers ⌝ }
+fn take_step(s: &[u8], a: usize, powers: &[u64; 20]) -> StepRead
+    requires { ⌜ now powers ≡ powersOfTen ⌝ }
     ensures { λ r. ⌜ ReadsStep (now (s .entry)) a r ⌝ }
 {
     if s.len() <= a {
@@ -68,7 +68,7 @@ fn take_step(s: &[u8], a: usize, t: &[u64; 20]) -> StepRead
         return take_key_step(s, n);
     }
     if b == b'[' {
-        return take_list_step(s, n, t);
+        return take_list_step(s, n, powers);
     }
     StepRead::Bad
 }
@@ -88,8 +88,8 @@ fn no_way() -> WayRead
 }
 
 // A way: one to eight keys, `^` only last.
-pub fn take_way(s: &[u8], a: usize, t: &[u64; 20]) -> WayRead
-    requires { ⌜ now t ≡ powers ⌝ }
+pub fn take_way(s: &[u8], a: usize, powers: &[u64; 20]) -> WayRead
+    requires { ⌜ now powers ≡ powersOfTen ⌝ }
     ensures { λ r. ⌜ ReadsWay (now (s .entry)) a r ⌝ }
 {
     let mut keys = [0u64; 24];
@@ -104,7 +104,7 @@ pub fn take_way(s: &[u8], a: usize, t: &[u64; 20]) -> WayRead
     let mut n = k.next;
     let mut i: usize = 1;
     while i <= 8 {
-        let x = take_step(s, n, t);
+        let x = take_step(s, n, powers);
         match x {
             StepRead::End => return WayRead {
                 ok: true,
@@ -148,8 +148,8 @@ fn no_place() -> PlaceRead
 pub fn take_place_way(s: &[u8]) -> PlaceRead
     ensures { λ r. ⌜ ReadsPlaceWay (now (s .entry)) r ⌝ }
 {
-    let t = decimal::powers();
-    let w = take_way(s, 0, &t);
+    let powers = decimal::powers();
+    let w = take_way(s, 0, &powers);
     if !w.ok {
         return no_place();
     }

@@ -6,7 +6,7 @@ use crate::hex::take_string;
 use crate::take_integer;
 ghost use mathlib.Core.Path.{_≡_};
 ghost use mathlib.Core.Bool.{false};
-ghost use Rattle.decimal.specs.Powers.{powers};
+ghost use Rattle.decimal.specs.Powers.{powersOfTen};
 ghost use Rattle.readers.specs.Given.{ReadsPlain, ReadsAssigned, ReadsNumberValue, ReadsBytesValue, Bare};
 
 // A value without bytes of its own.
@@ -33,11 +33,11 @@ fn no_value() -> GivenRead
 }
 
 // The integer behind `i`.
-fn take_number(s: &[u8], a: usize, t: &[u64; 20]) -> GivenRead
-    requires { ⌜ now t ≡ powers ⌝ }
+fn take_number(s: &[u8], a: usize, powers: &[u64; 20]) -> GivenRead
+    requires { ⌜ now powers ≡ powersOfTen ⌝ }
     ensures { λ r. ⌜ ReadsNumberValue (now (s .entry)) a r ⌝ }
 {
-    match take_integer(s, a, t) {
+    match take_integer(s, a, powers) {
         IntegerRead::NonNeg { value, next } => a_value(Given::NonNeg(value), next),
         IntegerRead::Neg { value, next } => a_value(Given::Neg(value), next),
         IntegerRead::Bad => no_value(),
@@ -59,8 +59,8 @@ fn take_bytes(s: &[u8], a: usize) -> GivenRead
 }
 
 // A plain value: n, t, f, i and a number, s and hex.
-pub fn take_plain(s: &[u8], a: usize, t: &[u64; 20]) -> GivenRead
-    requires { ⌜ now t ≡ powers ⌝ }
+pub fn take_plain(s: &[u8], a: usize, powers: &[u64; 20]) -> GivenRead
+    requires { ⌜ now powers ≡ powersOfTen ⌝ }
     ensures { λ r. ⌜ ReadsPlain (now (s .entry)) a r ⌝ }
 {
     if s.len() <= a {
@@ -78,7 +78,7 @@ pub fn take_plain(s: &[u8], a: usize, t: &[u64; 20]) -> GivenRead
         return a_value(Given::False, n);
     }
     if b == b'i' {
-        return take_number(s, n, t);
+        return take_number(s, n, powers);
     }
     if b == b's' {
         return take_bytes(s, n);
@@ -87,8 +87,8 @@ pub fn take_plain(s: &[u8], a: usize, t: &[u64; 20]) -> GivenRead
 }
 
 // What is assigned: a plain value, `{` or `[`.
-pub fn take_assigned(s: &[u8], a: usize, t: &[u64; 20]) -> GivenRead
-    requires { ⌜ now t ≡ powers ⌝ }
+pub fn take_assigned(s: &[u8], a: usize, powers: &[u64; 20]) -> GivenRead
+    requires { ⌜ now powers ≡ powersOfTen ⌝ }
     ensures { λ r. ⌜ ReadsAssigned (now (s .entry)) a r ⌝ }
 {
     if s.len() <= a {
@@ -101,5 +101,5 @@ pub fn take_assigned(s: &[u8], a: usize, t: &[u64; 20]) -> GivenRead
     if b == b'[' {
         return a_value(Given::List, a + 1);
     }
-    take_plain(s, a, t)
+    take_plain(s, a, powers)
 }

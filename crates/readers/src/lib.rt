@@ -1,5 +1,5 @@
 // Readers of the parts that messages, edits, sheets and the ways of reads are made of. Each takes what stands at a place of a text, and
-// answers it with the place behind it, or that nothing of its kind stands there. A table of powers `t` is `decimal::powers()`.
+// answers it with the place behind it, or that nothing of its kind stands there. A table of powers `powers` is `decimal::powers()`.
 mod assigned;
 mod hex;
 
@@ -13,7 +13,7 @@ ghost use mathlib.Core.Path.{_≡_};
 ghost use mathlib.Core.List.{[], _∷_};
 ghost use Prim.Native.Nat.{_-_, _≤_};
 ghost use lib.ListN.{length, take, drop};
-ghost use Rattle.decimal.specs.Powers.{powers};
+ghost use Rattle.decimal.specs.Powers.{powersOfTen};
 ghost use Rattle.decimal.specs.Numbers.{ReadsNumber};
 ghost use Rattle.readers.specs.Reads.{ReadsText, ReadsId, commaNumbers, ReadsCounters, ReadsInteger};
 ghost use Rattle.readers.specs.Lines.{IsLine};
@@ -119,17 +119,18 @@ pub fn take_byte(s: &[u8], a: usize, b: u8) -> Past
 }
 
 // An id c.r, as the number c * 8 + (r - 1).
-pub fn take_id(s: &[u8], a: usize, t: &[u64; 20]) -> IdRead
-    requires { ⌜ now t ≡ powers ⌝ }
+pub fn take_id(s: &[u8], a: usize, powers: &[u64; 20]) -> IdRead
+    requires { ⌜ now powers ≡ powersOfTen ⌝ }
     ensures { λ r. ⌜ ReadsId (now (s .entry)) a r ⌝ }
 {
-    let Number::Value { value: c, next: n } = decimal::take_between(s, a, 1, 4294967295, t) else {
+    let Number::Value { value: c, next: n } = decimal::take_between(s, a, 1, 4294967295, powers)
+    else {
         return IdRead::Bad;
     };
     let Past::At(m) = take_byte(s, n, b'.') else {
         return IdRead::Bad;
     };
-    let Number::Value { value: r, next } = decimal::take_between(s, m, 1, 8, t) else {
+    let Number::Value { value: r, next } = decimal::take_between(s, m, 1, 8, powers) else {
         return IdRead::Bad;
     };
     IdRead::Found {
@@ -139,26 +140,26 @@ pub fn take_id(s: &[u8], a: usize, t: &[u64; 20]) -> IdRead
 }
 
 // A comma and a counter.
-fn take_comma(s: &[u8], a: usize, t: &[u64; 20]) -> Number
-    requires { ⌜ now t ≡ powers ⌝ }
+fn take_comma(s: &[u8], a: usize, powers: &[u64; 20]) -> Number
+    requires { ⌜ now powers ≡ powersOfTen ⌝ }
     ensures { λ r. ⌜ ReadsNumber commaNumbers (now (s .entry)) a r ⌝ }
 {
     let Past::At(n) = take_byte(s, a, b',') else {
         return Number::Bad;
     };
-    decimal::take_decimal(s, n, 4294967295, t)
+    decimal::take_decimal(s, n, 4294967295, powers)
 }
 
 // Eight counters with commas.
-pub fn take_counters(s: &[u8], a: usize, t: &[u64; 20]) -> CountersRead
-    requires { ⌜ now t ≡ powers ⌝ }
+pub fn take_counters(s: &[u8], a: usize, powers: &[u64; 20]) -> CountersRead
+    requires { ⌜ now powers ≡ powersOfTen ⌝ }
     ensures { λ r. ⌜ ReadsCounters (now (s .entry)) a r ⌝ }
 {
     let mut v = [0u32; 8];
     let Number::Value {
         value: first,
         next: m,
-    } = decimal::take_decimal(s, a, 4294967295, t)
+    } = decimal::take_decimal(s, a, 4294967295, powers)
     else {
         return CountersRead {
             ok: false,
@@ -170,7 +171,7 @@ pub fn take_counters(s: &[u8], a: usize, t: &[u64; 20]) -> CountersRead
     let mut n = m;
     let mut i: usize = 1;
     while i < 8 {
-        let Number::Value { value: x, next } = take_comma(s, n, t) else {
+        let Number::Value { value: x, next } = take_comma(s, n, powers) else {
             return CountersRead {
                 ok: false,
                 counters: Counters { at: v },
@@ -189,18 +190,18 @@ pub fn take_counters(s: &[u8], a: usize, t: &[u64; 20]) -> CountersRead
 }
 
 // An integer from -9223372036854775808 to 9223372036854775807.
-pub fn take_integer(s: &[u8], a: usize, t: &[u64; 20]) -> IntegerRead
-    requires { ⌜ now t ≡ powers ⌝ }
+pub fn take_integer(s: &[u8], a: usize, powers: &[u64; 20]) -> IntegerRead
+    requires { ⌜ now powers ≡ powersOfTen ⌝ }
     ensures { λ r. ⌜ ReadsInteger (now (s .entry)) a r ⌝ }
 {
     let Past::At(n) = take_byte(s, a, b'-') else {
-        let Number::Value { value, next } = decimal::take_decimal(s, a, 9223372036854775807, t)
+        let Number::Value { value, next } = decimal::take_decimal(s, a, 9223372036854775807, powers)
         else {
             return IntegerRead::Bad;
         };
         return IntegerRead::NonNeg { value, next };
     };
-    let Number::Value { value, next } = decimal::take_between(s, n, 1, 9223372036854775808, t)
+    let Number::Value { value, next } = decimal::take_between(s, n, 1, 9223372036854775808, powers)
     else {
         return IntegerRead::Bad;
     };

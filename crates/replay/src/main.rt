@@ -10,7 +10,7 @@ use terminal::State;
 ghost use Prim.Native.Nat.{_≤_, _<_};
 ghost use mathlib.Core.Path.{_≡_};
 ghost use mathlib.Core.Bool.{true};
-ghost use Rattle.stream.specs.Pieces.{Holds};
+ghost use Rattle.stream.specs.Pieces.{CutInside};
 
 // Where the next call stands, and the terminal's state after this one.
 struct After {
@@ -179,8 +179,8 @@ fn answer(
 
 // Reads on behind the bytes that are held, until the buffer is full or the script ends.
 fn read_on(buf: &mut [u8], c: Cut) -> Input
-    requires { ⌜ Holds (now buf) c ⌝ }
-    ensures { λ r. ⌜ Holds (now (buf .exit)) (r .cut) ⌝ }
+    requires { ⌜ CutInside (now buf) c ⌝ }
+    ensures { λ r. ⌜ CutInside (now (buf .exit)) (r .cut) ⌝ }
 {
     let held = stream::make_room(buf, c);
     let to = held.to;
@@ -199,8 +199,8 @@ fn read_on(buf: &mut [u8], c: Cut) -> Input
 
 // The same, unless a call is held whole: none takes more than 65,600 bytes.
 fn hold_call(buf: &mut [u8], c: Cut, ended: bool) -> Input
-    requires { ⌜ Holds (now buf) c ⌝ }
-    ensures { λ r. ⌜ Holds (now (buf .exit)) (r .cut) ⌝ }
+    requires { ⌜ CutInside (now buf) c ⌝ }
+    ensures { λ r. ⌜ CutInside (now (buf .exit)) (r .cut) ⌝ }
 {
     if ended {
         return Input { cut: c, ended };

@@ -10,7 +10,7 @@ use Rattle.meaning.specs.Ids.{covered}
 use Rattle.meaning.specs.Places.{before, equal, beyond, order, Place, place, bare, childrenOf, elementsOf, Document}
 use Rattle.meaning.specs.Places.{Children, childless, child, Elements, empty, element}
 use Rattle.meaning.specs.Ways.{head, after, Way, assign, delete, insert, intoMap, intoList, Operation}
-use Rattle.meaning.specs.Judge.{look, Found, found, unknown, isFound, find, led, astray}
+use Rattle.meaning.specs.Judge.{look, Found, found, unknown, isFound, find, elementsFound, astray}
 use Rattle.meaning.specs.Read.{lookup}
 use Rattle.meaning.specs.Sheet.{Spot, inMap, inList, Row, rowOf, rows, rowsChildren, rowsElements, rowsOf}
 use Rattle.theorems.specs.Decide.{Same, is, isnt, alike}
@@ -51,16 +51,16 @@ isLocated nowhere = false
 isLocated (here b) = true
 
 -- answer 8, on rows: each element id on the way is covered by deps and an element of that list
-unfoldable pub ledRows : List ℕ → ℕ → Way → List Row → Bool
-ledRows d n (assign a) rs = true
-ledRows d n delete rs = true
-ledRows d n (insert head a) rs = true
-ledRows d n (insert (after e) a) rs = covered d e && isLocated (locateElement n e rs)
-ledRows d n (intoMap k w) rs = ledRows d (suc n) w (underOf (locateKey n k rs))
-ledRows d n (intoList e w) rs = covered d e && elim (locateElement n e rs) [ nowhere ↦ false | here b ↦ ledRows d (suc n) w (b .under) ]
+unfoldable pub elementsFoundRows : List ℕ → ℕ → Way → List Row → Bool
+elementsFoundRows d n (assign a) rs = true
+elementsFoundRows d n delete rs = true
+elementsFoundRows d n (insert head a) rs = true
+elementsFoundRows d n (insert (after e) a) rs = covered d e && isLocated (locateElement n e rs)
+elementsFoundRows d n (intoMap k w) rs = elementsFoundRows d (suc n) w (underOf (locateKey n k rs))
+elementsFoundRows d n (intoList e w) rs = covered d e && elim (locateElement n e rs) [ nowhere ↦ false | here b ↦ elementsFoundRows d (suc n) w (b .under) ]
 
 unfoldable pub astrayRows : Operation → List Row → Bool
-astrayRows o rs = not (ledRows (o .deps) 2 (o .way) (underOf (locateKey 1 (o .top) rs)))
+astrayRows o rs = not (elementsFoundRows (o .deps) 2 (o .way) (underOf (locateKey 1 (o .top) rs)))
 
 -- The laws.
 
@@ -187,24 +187,24 @@ located-found n p unknown = refl
 located-found n p (found c) = refl
 
 -- answer 8 is the same on rows
-pub led-rows : (d : List ℕ) (w : Way) (n : ℕ) (c : Place) → ledRows d n w (rows n c) ≡ led d w c
-unfolding ledRows led
-led-rows d (assign a) n c = refl
-led-rows d delete n c = refl
-led-rows d (insert head a) n c = refl
-led-rows d (insert (after e) a) n c =
+pub found-rows : (d : List ℕ) (w : Way) (n : ℕ) (c : Place) → elementsFoundRows d n w (rows n c) ≡ elementsFound d w c
+unfolding elementsFoundRows elementsFound
+found-rows d (assign a) n c = refl
+found-rows d delete n c = refl
+found-rows d (insert head a) n c = refl
+found-rows d (insert (after e) a) n c =
     ap (λ b. covered d e && b) (ap isLocated (under-element n e c) ∙ located-found n (inList e) (find e (elementsOf c)))
-led-rows d (intoMap k w) n c =
-    ap (ledRows d (suc n) w) (ap underOf (under-key n k c) ∙ (under-found n (inMap k) (lookup k (childrenOf c))
+found-rows d (intoMap k w) n c =
+    ap (elementsFoundRows d (suc n) w) (ap underOf (under-key n k c) ∙ (under-found n (inMap k) (lookup k (childrenOf c))
     ∙ ap (rows (suc n)) (sym (look-lookup k (childrenOf c)))))
-    ∙ led-rows d w (suc n) (look k (childrenOf c))
-led-rows d (intoList e w) n c =
-    ap (λ l. covered d e && elim l as (λ l. Bool) [ nowhere ↦ false | here b ↦ ledRows d (suc n) w (b .under) ]) (under-element n e c)
-    ∙ ap (λ b. covered d e && b) (go (find e (elementsOf c)) (λ x. led-rows d w (suc n) x))
+    ∙ found-rows d w (suc n) (look k (childrenOf c))
+found-rows d (intoList e w) n c =
+    ap (λ l. covered d e && elim l as (λ l. Bool) [ nowhere ↦ false | here b ↦ elementsFoundRows d (suc n) w (b .under) ]) (under-element n e c)
+    ∙ ap (λ b. covered d e && b) (go (find e (elementsOf c)) (λ x. found-rows d w (suc n) x))
   where
-    go : (f : Found) → ((x : Place) → ledRows d (suc n) w (rows (suc n) x) ≡ led d w x)
-        → _≡_ {A = Bool} (elim (asBlock n (inList e) f) [ nowhere ↦ false | here b ↦ ledRows d (suc n) w (b .under) ])
-        (elim f [ found x ↦ led d w x | unknown ↦ false ])
+    go : (f : Found) → ((x : Place) → elementsFoundRows d (suc n) w (rows (suc n) x) ≡ elementsFound d w x)
+        → _≡_ {A = Bool} (elim (asBlock n (inList e) f) [ nowhere ↦ false | here b ↦ elementsFoundRows d (suc n) w (b .under) ])
+        (elim f [ found x ↦ elementsFound d w x | unknown ↦ false ])
     go unknown h = refl
     go (found x) h = h x
 
@@ -212,7 +212,7 @@ pub astray-rows : (o : Operation) (D : Document) → astrayRows o (rowsOf D) ≡
 unfolding astrayRows astray rowsOf rows
 astray-rows o D =
     let e = append-nil (rowsChildren 1 (D .root)) in
-    ap not (ap (ledRows (o .deps) 2 (o .way)) (ap (λ rs. underOf (locateKey 1 (o .top) rs)) (sym e)
+    ap not (ap (elementsFoundRows (o .deps) 2 (o .way)) (ap (λ rs. underOf (locateKey 1 (o .top) rs)) (sym e)
     ∙ (ap underOf (locate-key 1 (o .top) (D .root) empty) ∙ (under-found 1 (inMap (o .top)) (lookup (o .top) (D .root))
     ∙ ap (rows 2) (sym (look-lookup (o .top) (D .root))))))
-    ∙ led-rows (o .deps) (o .way) 2 (look (o .top) (D .root)))
+    ∙ found-rows (o .deps) (o .way) 2 (look (o .top) (D .root)))

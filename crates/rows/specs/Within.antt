@@ -1,5 +1,5 @@
 -- An operation seen from a row on: what it does, adds and takes away among the rows that stand behind a place, the children of depth n
--- first. Rows that are shallower end what hangs under the place, and make no difference: `rows-within`, `change-within`, `led-within`.
+-- first. Rows that are shallower end what hangs under the place, and make no difference: `rows-within`, `change-within`, `found-within`.
 -- So code goes down a way without looking for the end of each block.
 -- Assumes nothing.
 use Prim.Native.Nat.{ℕ, suc, _≤_}
@@ -16,7 +16,7 @@ use Rattle.rows.specs.Blocks.{onBlock, changeHere, seekRows, atKeyRows, 
 use Rattle.rows.specs.Blocks.{giveBlock, passingRow, runBlock, applyRows}
 use Rattle.rows.specs.Spans.{Shallow}
 use Rattle.rows.specs.Locate.{Located, nowhere, here, locateHere, locate, locateKey, locateElement, underOf, isLocated}
-use Rattle.rows.specs.Locate.{ledRows, astrayRows}
+use Rattle.rows.specs.Locate.{elementsFoundRows, astrayRows}
 use Rattle.rows.specs.Counting.{Change, noChange, both, newChange, passingChange, newBlock, foundChange, isPrev, runChange, change}
 
 -- what an operation does among the rows behind a place
@@ -82,8 +82,8 @@ pub change-under : (o : Operation) (rs : List Row) → change o rs ≡ underChan
 unfolding change underChange
 change-under o rs = refl
 
-pub astray-under : (o : Operation) (rs : List Row) → astrayRows o rs ≡ not (ledRows (o .deps) 1 (intoMap (o .top) (o .way)) rs)
-unfolding astrayRows ledRows
+pub astray-under : (o : Operation) (rs : List Row) → astrayRows o rs ≡ not (elementsFoundRows (o .deps) 1 (intoMap (o .top) (o .way)) rs)
+unfolding astrayRows elementsFoundRows
 astray-under o rs = refl
 
 -- what ends a block isn't deeper
@@ -260,14 +260,14 @@ module _ (n : ℕ) (R : List Row) (h : Shallow n R) where
   change-within d (intoMap k w) us = ap (foundChange (runChange d (suc n) w) (makes w) (suc n) (inMap k)) (key-within k us)
   change-within d (intoList e w) us = ap (foundChange (runChange d (suc n) w) false (suc n) (inList e)) (element-within e us)
 
-  pub led-within : (d : List ℕ) (w : Way) (us : List Row) → ledRows d (suc n) w (us ++ R) ≡ ledRows d (suc n) w us
-  unfolding ledRows
-  led-within d (assign a) us = refl
-  led-within d delete us = refl
-  led-within d (insert head a) us = refl
-  led-within d (insert (after e) a) us = ap (λ l. covered d e && isLocated l) (element-within e us)
-  led-within d (intoMap k w) us = ap (λ l. ledRows d (suc (suc n)) w (underOf l)) (key-within k us)
-  led-within d (intoList e w) us =
+  pub found-within : (d : List ℕ) (w : Way) (us : List Row) → elementsFoundRows d (suc n) w (us ++ R) ≡ elementsFoundRows d (suc n) w us
+  unfolding elementsFoundRows
+  found-within d (assign a) us = refl
+  found-within d delete us = refl
+  found-within d (insert head a) us = refl
+  found-within d (insert (after e) a) us = ap (λ l. covered d e && isLocated l) (element-within e us)
+  found-within d (intoMap k w) us = ap (λ l. elementsFoundRows d (suc (suc n)) w (underOf l)) (key-within k us)
+  found-within d (intoList e w) us =
       ap
-      (λ l. covered d e && elim l as (λ l. Bool) [ nowhere ↦ false | here b ↦ ledRows d (suc (suc n)) w (b .under) ])
+      (λ l. covered d e && elim l as (λ l. Bool) [ nowhere ↦ false | here b ↦ elementsFoundRows d (suc (suc n)) w (b .under) ])
       (element-within e us)

@@ -45,11 +45,11 @@ fn no_call() -> Call
 pub fn first_line(s: &[u8], a: usize, name: &[u8]) -> Asked
     ensures { λ r. ⌜ FindsLine (now (name .entry)) (now (s .entry)) a r ⌝ }
 {
-    let t = decimal::powers();
+    let powers = decimal::powers();
     let Past::At(n) = readers::take_text(s, a, name) else {
         return not_asked();
     };
-    let Number::Value { value, next: end } = decimal::take_decimal(s, n, 65536, &t) else {
+    let Number::Value { value, next: end } = decimal::take_decimal(s, n, 65536, &powers) else {
         return not_asked();
     };
     let Past::At(next) = readers::take_byte(s, end, b'\n') else {

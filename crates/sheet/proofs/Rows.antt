@@ -19,7 +19,7 @@ use Rattle.lines.specs.declared.Spot.{Spot}
 use Rattle.tables.specs.Words.{marksAt, valuesAt, Tables}
 use Rattle.tables.specs.Seek.{further, Few}
 use Rattle.tables.specs.Standing.{first}
-use Rattle.tables.specs.declared.Stop.{Stop}
+use Rattle.tables.specs.declared.Position.{Position}
 use Rattle.sheet.specs.Texts.{kindIn, spotIn, placeText, valueAt, marksText, valuesText, headAt, rowText, rowsText, sheetText, Near}
 use Rattle.sheet.proofs.Runs.{lent}
 
@@ -40,7 +40,7 @@ unfolding valueAt
 value-here values i a b e x y z d = rw (e, b, a, x, y, z, d)
 
 -- a row, and the sheet, in pieces
-pub row-text : (T : Tables) (s : Stop)
+pub row-text : (T : Tables) (s : Position)
     → rowText T s
     ≡ placeText (headAt T s) (T .keys) (s .row)
     ++ (marksText (T .marks) (s .mark) (marksAt (headAt T s)) ++ valuesText (T .values) (s .value) (valuesAt (headAt T s)))
@@ -53,7 +53,7 @@ unfolding sheetText lineText
 sheet-text T rows seen = refl
 
 -- On the way over the rows: `left` of them are still to come.
-pub record Going (rows : ℕ) (s : Stop) (left : ℕ) : Type 0 where
+pub record Going (rows : ℕ) (s : Position) (left : ℕ) : Type 0 where
   pub row : s .row + left ≡ rows
   pub mark : s .mark ≤ 2048 * s .row
   pub value : s .value ≤ 512 * s .row
@@ -61,7 +61,7 @@ pub record Going (rows : ℕ) (s : Stop) (left : ℕ) : Type 0 where
 pub going-first : (rows : ℕ) → Going rows first rows
 going-first rows = record { row = omega arith; mark = omega arith; value = omega arith }
 
-module _ (rows : ℕ) (s : Stop) (left : ℕ) (h : 0 < left) (g : Going rows s left) where
+module _ (rows : ℕ) (s : Position) (left : ℕ) (h : 0 < left) (g : Going rows s left) where
   pub near : rows ≤ 264 → Near s
   near f = record { row = omega (arith, g .row); mark = g .mark; value = g .value }
 
@@ -72,7 +72,7 @@ module _ (rows : ℕ) (s : Stop) (left : ℕ) (h : 0 < left) (g : Going rows s l
   going-on w = record { row = omega (arith, g .row); mark = omega (arith, g .mark); value = omega (arith, g .value) }
 
 -- What is still to come of a row whose head h was read: behind its place, and behind its marks.
-module _ (T : Tables) (s : Stop) {h : ℕ} (e : h ≡ headAt T s) where
+module _ (T : Tables) (s : Position) {h : ℕ} (e : h ≡ headAt T s) where
   abbrev placeHere : List ℕ
   placeHere = placeText h (T .keys) (s .row)
 

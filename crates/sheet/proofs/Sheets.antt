@@ -33,7 +33,7 @@ use Rattle.tables.specs.Parts.{At, at-behind, behind-at, holds-narrow, all-narr
 use Rattle.tables.specs.Parts.{plain-six, marks-length, values-length, marks-parts, values-parts}
 use Rattle.tables.specs.Stands.{head-at, key-at}
 use Rattle.tables.specs.declared.Counts.{Counts}
-use Rattle.tables.specs.declared.Stop.{Stop}
+use Rattle.tables.specs.declared.Position.{Position}
 use Rattle.sheet.specs.Texts.{kindIn, spotIn, placeText, valueAt, valueText, markText, texts}
 use Rattle.sheet.specs.Texts.{marksText, valuesText, headAt, rowText, rowsText, sheetText}
 use Rattle.sheet.specs.Saving.{ValidRow}
@@ -154,13 +154,13 @@ spot-back (inList i) g = refl
 -- A row of the tables, and all of them.
 module _ (h k m v : List ℕ) (c : Counts) where
   -- the rows B stand behind some others, from the place s on
-  record Standing (s : Stop) (B : List Row) : Type 0 where
+  record Standing (s : Position) (B : List Row) : Type 0 where
     ahead : List Row
     holds : Holds (four h k m v) c (ahead ++ B)
     here : s ≡ behind ahead
     valid : All ValidRow B
 
-  module _ (s : Stop) (r : Row) (R : List Row) (st : Standing s (r ∷ R)) where
+  module _ (s : Position) (r : Row) (R : List Row) (st : Standing s (r ∷ R)) where
     abbrev A : List Row
     A = st .ahead
 
@@ -228,7 +228,7 @@ module _ (h k m v : List ℕ) (c : Counts) where
       valid = st .valid .1;
     }
 
-  rows-are : (s : Stop) (B : List Row) → Standing s B → rowsText (four h k m v) s (length B) ≡ linesText (rowsLines B)
+  rows-are : (s : Position) (B : List Row) → Standing s B → rowsText (four h k m v) s (length B) ≡ linesText (rowsLines B)
   unfolding rowsLines
   rows-are =
       all-lines (rowText (four h k m v)) (λ s. further s (headAt (four h k m v) s)) rowLines rowsLines Standing refl (λ r R. refl)

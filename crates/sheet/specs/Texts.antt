@@ -18,7 +18,7 @@ use Rattle.lines.specs.declared.Spot.the-variants.{Key, Element}
 use Rattle.tables.specs.Words.{depthIn, sideIn, mapIn, listIn, marksAt, valuesAt, Tables}
 use Rattle.tables.specs.Seek.{Three, threeAt, further}
 use Rattle.tables.specs.Standing.{first}
-use Rattle.tables.specs.declared.Stop.{Stop}
+use Rattle.tables.specs.declared.Position.{Position}
 
 -- the kind of a value by its word, and by the number that it is
 unfoldable pub kindIn : ℕ → ℕ → Kind
@@ -65,15 +65,15 @@ abbrev pub valuesText : List ℕ → ℕ → ℕ → List ℕ
 valuesText values = texts (valueText values) (λ i. i + 1)
 
 -- the head of the row at s, the lines of that row, and of n rows from there on
-abbrev pub headAt : Tables → Stop → ℕ
+abbrev pub headAt : Tables → Position → ℕ
 headAt T s = getD (T .heads) (s .row) 0
 
-unfoldable pub rowText : Tables → Stop → List ℕ
+unfoldable pub rowText : Tables → Position → List ℕ
 rowText T s =
     placeText (headAt T s) (T .keys) (s .row)
     ++ (marksText (T .marks) (s .mark) (marksAt (headAt T s)) ++ valuesText (T .values) (s .value) (valuesAt (headAt T s)))
 
-abbrev pub rowsText : Tables → Stop → ℕ → List ℕ
+abbrev pub rowsText : Tables → Position → ℕ → List ℕ
 rowsText T = texts (rowText T) (λ s. further s (headAt T s))
 
 -- the sheet, with so many rows
@@ -81,7 +81,7 @@ unfoldable pub sheetText : Tables → ℕ → List ℕ → List ℕ
 sheetText T rows seen = lineText sheetLine ++ (lineText (seenLine seen) ++ (rowsText T first rows ++ lineText (endLine rows)))
 
 -- one of at most 264 rows, by the greatest counts that heads can give the rows before it
-pub record Near (s : Stop) : Type 0 where
+pub record Near (s : Position) : Type 0 where
   pub row : s .row < 264
   pub mark : s .mark ≤ 2048 * s .row
   pub value : s .value ≤ 512 * s .row

@@ -17,7 +17,7 @@ use writers::put_text;
 ghost use mathlib.Core.Path.{_≡_};
 ghost use Prim.Native.Nat.{_≤_};
 ghost use lib.ListN.{length};
-ghost use Rattle.decimal.specs.Powers.{powers};
+ghost use Rattle.decimal.specs.Powers.{powersOfTen};
 ghost use Rattle.decimal.specs.Take.{Wrote};
 ghost use Rattle.tables.specs.Holding.{four};
 ghost use Rattle.sheet.specs.Texts.{sheetText};
@@ -32,15 +32,15 @@ fn sheet_size(
     values: &[u64],
     rows: usize,
     seen: Counters,
-    t: &[u64; 20],
+    powers: &[u64; 20],
 ) -> usize
-    requires { ⌜ (now t ≡ powers) × (rows ≤ 264) ⌝ }
+    requires { ⌜ (now powers ≡ powersOfTen) × (rows ≤ 264) ⌝ }
     ensures { λ r. ⌜ r ≡ length
         (sheetText (four (now (heads .entry)) (now (keys .entry)) (now (marks .entry)) (now (values .entry))) rows (seen .at)) ⌝ }
 {
-    let a = seen_line_size(seen, t);
-    let b = rows_size(heads, keys, marks, values, rows, t);
-    let c = end_line_size(rows as u64, t);
+    let a = seen_line_size(seen, powers);
+    let b = rows_size(heads, keys, marks, values, rows, powers);
+    let c = end_line_size(rows as u64, powers);
     8 + a + b + c
 }
 
@@ -52,18 +52,18 @@ fn put_sheet(
     values: &[u64],
     rows: usize,
     seen: Counters,
-    t: &[u64; 20],
+    powers: &[u64; 20],
 ) -> usize
-    requires { ⌜ (now t ≡ powers) × (rows ≤ 264)
+    requires { ⌜ (now powers ≡ powersOfTen) × (rows ≤ 264)
         × (length (sheetText (four (now heads) (now keys) (now marks) (now values)) rows (seen .at)) ≤ length (now buf)) ⌝ }
     ensures { λ r. ⌜ Wrote
         (sheetText (four (now (heads .entry)) (now (keys .entry)) (now (marks .entry)) (now (values .entry))) rows (seen .at))
         (now (buf .entry)) (now (buf .exit)) r ⌝ }
 {
     let a = put_text(buf, b"sheet=1\n");
-    let b = a + put_seen_line(&mut buf[a..], seen, t);
-    let c = b + put_rows(&mut buf[b..], heads, keys, marks, values, rows, t);
-    c + put_end_line(&mut buf[c..], rows as u64, t)
+    let b = a + put_seen_line(&mut buf[a..], seen, powers);
+    let c = b + put_rows(&mut buf[b..], heads, keys, marks, values, rows, powers);
+    c + put_end_line(&mut buf[c..], rows as u64, powers)
 }
 
 // Saves the tables' document: answers how many bytes were written, or, with the buffer as it was, how many are needed.
@@ -83,11 +83,11 @@ pub fn save(
     if 264 < rows {
         return Saved::Written { written: 0 };
     }
-    let t = decimal::powers();
-    let needed = sheet_size(heads, keys, marks, values, rows, seen, &t);
+    let powers = decimal::powers();
+    let needed = sheet_size(heads, keys, marks, values, rows, seen, &powers);
     if buf.len() < needed {
         return Saved::ShortBuffer { needed };
     }
-    let written = put_sheet(buf, heads, keys, marks, values, rows, seen, &t);
+    let written = put_sheet(buf, heads, keys, marks, values, rows, seen, &powers);
     Saved::Written { written }
 }

@@ -5,13 +5,13 @@ use crate::parts::put_value;
 use crate::parts::value_size;
 use lines::mark_line_size;
 use lines::put_mark_line;
-use tables::Stop;
-use tables::past;
+use tables::Position;
+use tables::next_row;
 use tables::word;
 ghost use mathlib.Core.Path.{_≡_};
 ghost use Prim.Native.Nat.{_+_, _*_, _≤_, _<_};
 ghost use lib.ListN.{length};
-ghost use Rattle.decimal.specs.Powers.{powers};
+ghost use Rattle.decimal.specs.Powers.{powersOfTen};
 ghost use Rattle.decimal.specs.Take.{Wrote};
 ghost use Rattle.writers.specs.Sized.{Sized};
 ghost use Rattle.tables.specs.Standing.{first};
@@ -20,30 +20,30 @@ ghost use Rattle.sheet.specs.Texts.{marksText, valuesText, rowText, rows
 
 // The lines of n marks, from one on.
 
-fn marks_size(marks: &[u64], from: usize, n: usize, t: &[u64; 20]) -> usize
-    requires { ⌜ (now t ≡ powers) × (from + n < 1000000) ⌝ }
+fn marks_size(marks: &[u64], from: usize, n: usize, powers: &[u64; 20]) -> usize
+    requires { ⌜ (now powers ≡ powersOfTen) × (from + n < 1000000) ⌝ }
     ensures { λ r. ⌜ Sized (marksText (now (marks .entry)) from n) (47 * n) r ⌝ }
 {
     let mut sum: usize = 0;
     let mut i = from;
     let mut left = n;
     while 0 < left {
-        sum += mark_line_size(word(marks, i), t);
+        sum += mark_line_size(word(marks, i), powers);
         i += 1;
         left -= 1;
     }
     sum
 }
 
-fn put_marks(buf: &mut [u8], marks: &[u64], from: usize, n: usize, t: &[u64; 20]) -> usize
-    requires { ⌜ (now t ≡ powers) × (from + n < 1000000) × (length (marksText (now marks) from n) ≤ length (now buf)) ⌝ }
+fn put_marks(buf: &mut [u8], marks: &[u64], from: usize, n: usize, powers: &[u64; 20]) -> usize
+    requires { ⌜ (now powers ≡ powersOfTen) × (from + n < 1000000) × (length (marksText (now marks) from n) ≤ length (now buf)) ⌝ }
     ensures { λ r. ⌜ Wrote (marksText (now (marks .entry)) from n) (now (buf .entry)) (now (buf .exit)) r ⌝ }
 {
     let mut at: usize = 0;
     let mut i = from;
     let mut left = n;
     while 0 < left {
-        at += put_mark_line(&mut buf[at..], word(marks, i), t);
+        at += put_mark_line(&mut buf[at..], word(marks, i), powers);
         i += 1;
         left -= 1;
     }
@@ -52,30 +52,30 @@ fn put_marks(buf: &mut [u8], marks: &[u64], from: usize, n: usize, t: &[u64; 20]
 
 // The lines of n values, from one on.
 
-fn values_size(values: &[u64], from: usize, n: usize, t: &[u64; 20]) -> usize
-    requires { ⌜ (now t ≡ powers) × (from + n < 1000000) ⌝ }
+fn values_size(values: &[u64], from: usize, n: usize, powers: &[u64; 20]) -> usize
+    requires { ⌜ (now powers ≡ powersOfTen) × (from + n < 1000000) ⌝ }
     ensures { λ r. ⌜ Sized (valuesText (now (values .entry)) from n) (114 * n) r ⌝ }
 {
     let mut sum: usize = 0;
     let mut i = from;
     let mut left = n;
     while 0 < left {
-        sum += value_size(values, i, t);
+        sum += value_size(values, i, powers);
         i += 1;
         left -= 1;
     }
     sum
 }
 
-fn put_values(buf: &mut [u8], values: &[u64], from: usize, n: usize, t: &[u64; 20]) -> usize
-    requires { ⌜ (now t ≡ powers) × (from + n < 1000000) × (length (valuesText (now values) from n) ≤ length (now buf)) ⌝ }
+fn put_values(buf: &mut [u8], values: &[u64], from: usize, n: usize, powers: &[u64; 20]) -> usize
+    requires { ⌜ (now powers ≡ powersOfTen) × (from + n < 1000000) × (length (valuesText (now values) from n) ≤ length (now buf)) ⌝ }
     ensures { λ r. ⌜ Wrote (valuesText (now (values .entry)) from n) (now (buf .entry)) (now (buf .exit)) r ⌝ }
 {
     let mut at: usize = 0;
     let mut i = from;
     let mut left = n;
     while 0 < left {
-        at += put_value(&mut buf[at..], values, i, t);
+        at += put_value(&mut buf[at..], values, i, powers);
         i += 1;
         left -= 1;
     }
@@ -89,17 +89,17 @@ fn row_size(
     keys: &[u64],
     marks: &[u64],
     values: &[u64],
-    s: Stop,
-    t: &[u64; 20],
+    s: Position,
+    powers: &[u64; 20],
 ) -> usize
-    requires { ⌜ (now t ≡ powers) × Near s ⌝ }
+    requires { ⌜ (now powers ≡ powersOfTen) × Near s ⌝ }
     ensures { λ r. ⌜ Sized (rowText (four (now (heads .entry)) (now (keys .entry)) (now (marks .entry)) (now (values .entry))) s)
         154533 r ⌝ }
 {
     let h = word(heads, s.row);
-    let a = place_size(h, keys, s.row, t);
-    let b = marks_size(marks, s.mark, (h / 128 % 2048) as usize, t);
-    let c = values_size(values, s.value, (h / 262144 % 512) as usize, t);
+    let a = place_size(h, keys, s.row, powers);
+    let b = marks_size(marks, s.mark, (h / 128 % 2048) as usize, powers);
+    let c = values_size(values, s.value, (h / 262144 % 512) as usize, powers);
     a + b + c
 }
 
@@ -109,24 +109,31 @@ fn put_row(
     keys: &[u64],
     marks: &[u64],
     values: &[u64],
-    s: Stop,
-    t: &[u64; 20],
+    s: Position,
+    powers: &[u64; 20],
 ) -> usize
-    requires { ⌜ (now t ≡ powers) × Near s
+    requires { ⌜ (now powers ≡ powersOfTen) × Near s
         × (length (rowText (four (now heads) (now keys) (now marks) (now values)) s) ≤ length (now buf)) ⌝ }
     ensures { λ r. ⌜ Wrote (rowText (four (now (heads .entry)) (now (keys .entry)) (now (marks .entry)) (now (values .entry))) s)
         (now (buf .entry)) (now (buf .exit)) r ⌝ }
 {
     let h = word(heads, s.row);
-    let a = put_place(buf, h, keys, s.row, t);
-    let b = a + put_marks(&mut buf[a..], marks, s.mark, (h / 128 % 2048) as usize, t);
+    let a = put_place(buf, h, keys, s.row, powers);
+    let b = a
+        + put_marks(
+            &mut buf[a..],
+            marks,
+            s.mark,
+            (h / 128 % 2048) as usize,
+            powers,
+        );
     b
         + put_values(
             &mut buf[b..],
             values,
             s.value,
             (h / 262144 % 512) as usize,
-            t,
+            powers,
         )
 }
 
@@ -138,22 +145,22 @@ pub fn rows_size(
     marks: &[u64],
     values: &[u64],
     rows: usize,
-    t: &[u64; 20],
+    powers: &[u64; 20],
 ) -> usize
-    requires { ⌜ (now t ≡ powers) × (rows ≤ 264) ⌝ }
+    requires { ⌜ (now powers ≡ powersOfTen) × (rows ≤ 264) ⌝ }
     ensures { λ r. ⌜ Sized (rowsText (four (now (heads .entry)) (now (keys .entry)) (now (marks .entry)) (now (values .entry))) first rows)
         (154533 * rows) r ⌝ }
 {
     let mut sum: usize = 0;
-    let mut s = Stop {
+    let mut s = Position {
         row: 0,
         mark: 0,
         value: 0,
     };
     let mut left = rows;
     while 0 < left {
-        sum += row_size(heads, keys, marks, values, s, t);
-        s = past(heads, s);
+        sum += row_size(heads, keys, marks, values, s, powers);
+        s = next_row(heads, s);
         left -= 1;
     }
     sum
@@ -166,23 +173,23 @@ pub fn put_rows(
     marks: &[u64],
     values: &[u64],
     rows: usize,
-    t: &[u64; 20],
+    powers: &[u64; 20],
 ) -> usize
-    requires { ⌜ (now t ≡ powers) × (rows ≤ 264)
+    requires { ⌜ (now powers ≡ powersOfTen) × (rows ≤ 264)
         × (length (rowsText (four (now heads) (now keys) (now marks) (now values)) first rows) ≤ length (now buf)) ⌝ }
     ensures { λ r. ⌜ Wrote (rowsText (four (now (heads .entry)) (now (keys .entry)) (now (marks .entry)) (now (values .entry))) first rows)
         (now (buf .entry)) (now (buf .exit)) r ⌝ }
 {
     let mut at: usize = 0;
-    let mut s = Stop {
+    let mut s = Position {
         row: 0,
         mark: 0,
         value: 0,
     };
     let mut left = rows;
     while 0 < left {
-        at += put_row(&mut buf[at..], heads, keys, marks, values, s, t);
-        s = past(heads, s);
+        at += put_row(&mut buf[at..], heads, keys, marks, values, s, powers);
+        s = next_row(heads, s);
         left -= 1;
     }
     at

@@ -9,7 +9,7 @@ use writers::Kind;
 ghost use mathlib.Core.Path.{_≡_};
 ghost use Prim.Native.Nat.{_≤_, _<_};
 ghost use lib.ListN.{length};
-ghost use Rattle.decimal.specs.Powers.{powers};
+ghost use Rattle.decimal.specs.Powers.{powersOfTen};
 ghost use Rattle.decimal.specs.Take.{Wrote};
 ghost use Rattle.writers.specs.Held.{InBounds};
 ghost use Rattle.writers.specs.Sized.{Sized};
@@ -62,8 +62,8 @@ fn spot_of(side: u64, hi: u64, lo: u64, len: u64) -> Spot
 
 // The place line of a row, of its head and its key.
 
-pub fn place_size(h: u64, keys: &[u64], row: usize, t: &[u64; 20]) -> usize
-    requires { ⌜ (now t ≡ powers) × (row < 264) ⌝ }
+pub fn place_size(h: u64, keys: &[u64], row: usize, powers: &[u64; 20]) -> usize
+    requires { ⌜ (now powers ≡ powersOfTen) × (row < 264) ⌝ }
     ensures { λ r. ⌜ Sized (placeText h (now (keys .entry)) row) 70 r ⌝ }
 {
     let spot = spot_of(
@@ -72,11 +72,11 @@ pub fn place_size(h: u64, keys: &[u64], row: usize, t: &[u64; 20]) -> usize
         word(keys, 3 * row + 1),
         word(keys, 3 * row + 2),
     );
-    place_line_size(h % 16, spot, h / 32 % 2 == 1, h / 64 % 2 == 1, t)
+    place_line_size(h % 16, spot, h / 32 % 2 == 1, h / 64 % 2 == 1, powers)
 }
 
-pub fn put_place(buf: &mut [u8], h: u64, keys: &[u64], row: usize, t: &[u64; 20]) -> usize
-    requires { ⌜ (now t ≡ powers) × (row < 264) × (length (placeText h (now keys) row) ≤ length (now buf)) ⌝ }
+pub fn put_place(buf: &mut [u8], h: u64, keys: &[u64], row: usize, powers: &[u64; 20]) -> usize
+    requires { ⌜ (now powers ≡ powersOfTen) × (row < 264) × (length (placeText h (now keys) row) ≤ length (now buf)) ⌝ }
     ensures { λ r. ⌜ Wrote (placeText h (now (keys .entry)) row) (now (buf .entry)) (now (buf .exit)) r ⌝ }
 {
     let spot = spot_of(
@@ -85,13 +85,13 @@ pub fn put_place(buf: &mut [u8], h: u64, keys: &[u64], row: usize, t: &[u64; 20]
         word(keys, 3 * row + 1),
         word(keys, 3 * row + 2),
     );
-    put_place_line(buf, h % 16, spot, h / 32 % 2 == 1, h / 64 % 2 == 1, t)
+    put_place_line(buf, h % 16, spot, h / 32 % 2 == 1, h / 64 % 2 == 1, powers)
 }
 
 // The line of a value, of its six words.
 
-pub fn value_size(values: &[u64], i: usize, t: &[u64; 20]) -> usize
-    requires { ⌜ (now t ≡ powers) × (i < 1000000) ⌝ }
+pub fn value_size(values: &[u64], i: usize, powers: &[u64; 20]) -> usize
+    requires { ⌜ (now powers ≡ powersOfTen) × (i < 1000000) ⌝ }
     ensures { λ r. ⌜ Sized (valueText (now (values .entry)) i) 114 r ⌝ }
 {
     let a = 6 * i;
@@ -103,11 +103,11 @@ pub fn value_size(values: &[u64], i: usize, t: &[u64; 20]) -> usize
         word(values, a + 4),
         word(values, a + 5),
     ];
-    value_line_size(word(values, a), kind, words, t)
+    value_line_size(word(values, a), kind, words, powers)
 }
 
-pub fn put_value(buf: &mut [u8], values: &[u64], i: usize, t: &[u64; 20]) -> usize
-    requires { ⌜ (now t ≡ powers) × (i < 1000000) × (length (valueText (now values) i) ≤ length (now buf)) ⌝ }
+pub fn put_value(buf: &mut [u8], values: &[u64], i: usize, powers: &[u64; 20]) -> usize
+    requires { ⌜ (now powers ≡ powersOfTen) × (i < 1000000) × (length (valueText (now values) i) ≤ length (now buf)) ⌝ }
     ensures { λ r. ⌜ Wrote (valueText (now (values .entry)) i) (now (buf .entry)) (now (buf .exit)) r ⌝ }
 {
     let a = 6 * i;
@@ -119,5 +119,5 @@ pub fn put_value(buf: &mut [u8], values: &[u64], i: usize, t: &[u64; 20]) -> usi
         word(values, a + 4),
         word(values, a + 5),
     ];
-    put_value_line(buf, word(values, a), kind, words, t)
+    put_value_line(buf, word(values, a), kind, words, powers)
 }

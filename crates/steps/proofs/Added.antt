@@ -19,7 +19,7 @@ use Rattle.tables.specs.Words.{headWord, valueWords, valuesAt, valuesOf, pad}
 use Rattle.tables.specs.Holding.{marksRoom, valuesRoom}
 use Rattle.tables.specs.Parts.{at-behind, plain-six}
 use Rattle.tables.specs.declared.Counts.{Counts}
-use Rattle.tables.specs.declared.Stop.{Stop}
+use Rattle.tables.specs.declared.Position.{Position}
 use Rattle.steps.specs.Steps.{Adds}
 use Rattle.words.proofs.Padded.{put-more}
 use Rattle.steps.proofs.Changed.{marks-same, changed}
@@ -38,7 +38,7 @@ six-is id kind (a ∷ b ∷ c ∷ []) h = absurd (omega arith)
 six-is id kind (a ∷ b ∷ c ∷ d ∷ []) h = refl
 six-is id kind (a ∷ b ∷ c ∷ d ∷ e ∷ w) h = absurd (omega arith)
 
-pub adds : (s : Stop) (id kind : ℕ) (words : List ℕ) (n k : ℕ) (c : Counts) (h v v₁ v₂ : List ℕ) → 6 * c .values + 6 ≤ length v
+pub adds : (s : Position) (id kind : ℕ) (words : List ℕ) (n k : ℕ) (c : Counts) (h v v₁ v₂ : List ℕ) → 6 * c .values + 6 ≤ length v
     → s .value ≤ c .values → n ≤ c .values - s .value → n ≡ valuesAt (getD h (s .row) 0)
     → Ranked n (rankRows 6 id n (drop (6 * s .value) v)) k → v₁ ≡ opened (6 * c .values) (6 * s .value + k * 6) 6 v
     → v₂ ≡ overAt (6 * s .value + k * 6) (six id kind words) v₁

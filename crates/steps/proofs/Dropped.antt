@@ -23,13 +23,13 @@ use Rattle.tables.specs.Holding.{marksRoom, valuesRoom}
 use Rattle.tables.specs.Parts.{at-behind}
 use Rattle.tables.specs.Values.{strides-value}
 use Rattle.tables.specs.declared.Counts.{Counts}
-use Rattle.tables.specs.declared.Stop.{Stop}
+use Rattle.tables.specs.declared.Position.{Position}
 use Rattle.steps.specs.Steps.{Drops}
 use Rattle.steps.proofs.Changed.{marks-same, changed}
 use Rattle.steps.proofs.Placed.{placed}
 use Rattle.steps.proofs.Values.{among-is, kept-is, values-kept}
 
-pub drops : (s : Stop) (d : List ℕ) (n end gone : ℕ) (c : Counts) (h v v₁ v₂ : List ℕ) → 6 * c .values ≤ length v → s .value ≤ c .values
+pub drops : (s : Position) (d : List ℕ) (n end gone : ℕ) (c : Counts) (h v v₁ v₂ : List ℕ) → 6 * c .values ≤ length v → s .value ≤ c .values
     → n ≤ c .values - s .value → n ≡ valuesAt (getD h (s .row) 0)
     → Kept (6 * s .value) (n * 6) (keepRows 6 (uncovered d) n (drop (6 * s .value) v)) v end v₁
     → v₂ ≡ closed 0 (6 * c .values) (6 * s .value + n * 6) end v₁ → gone ≡ n - (end - 6 * s .value) / 6

@@ -21,7 +21,7 @@ use Rattle.tables.specs.Words.{headWord, marksAt, marksOf, pad, Tables}
 use Rattle.tables.specs.Holding.{marksRoom, valuesRoom, Holds}
 use Rattle.tables.specs.Parts.{at-behind, marks-length, marks-long, marks-of-append, marks-parts}
 use Rattle.tables.specs.declared.Counts.{Counts}
-use Rattle.tables.specs.declared.Stop.{Stop}
+use Rattle.tables.specs.declared.Position.{Position}
 use Rattle.steps.specs.Steps.{Marks}
 use Rattle.words.proofs.Padded.{put-more, put-pad}
 use Rattle.steps.proofs.Changed.{marks-between, values-same, changed}
@@ -61,7 +61,7 @@ pub holds-gap : (g : ℕ) (T : Tables) (c : Counts) (rs : List Row) → Holds T 
     → Gap g (c .marks) (T .marks) (T .marks)
 holds-gap g T c rs H h = gap-open g (c .marks) (T .marks) (omega (arith, marks-long T c rs H)) (holds-zeros T c rs H)
 
-pub marks : (s : Stop) (id n k p g : ℕ) (c : Counts) (h m m₁ : List ℕ) → s .mark ≤ p → n ≤ p - s .mark
+pub marks : (s : Position) (id n k p g : ℕ) (c : Counts) (h m m₁ : List ℕ) → s .mark ≤ p → n ≤ p - s .mark
     → n ≡ marksAt (getD h (s .row) 0) → Ranked n (rankOf own id (run (s .mark) n m)) k → m₁ ≡ opened p (s .mark + k) g m
     → Marks s id c p g h m (record { rows = c .rows; marks = c .marks + 1; values = c .values }) (s .mark + k)
     (set h (s .row) (getD h (s .row) 0 + 128)) (set m₁ (s .mark + k + g - 1) id)

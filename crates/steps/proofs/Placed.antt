@@ -14,10 +14,10 @@ use Rattle.tables.specs.Holding.{Good, Holds}
 use Rattle.tables.specs.Parts.{at-behind, holds-narrow, all-narrow-right, all-right, marks-long, values-long}
 use Rattle.tables.specs.Stands.{head-at}
 use Rattle.tables.specs.declared.Counts.{Counts}
-use Rattle.tables.specs.declared.Stop.{Stop}
+use Rattle.tables.specs.declared.Position.{Position}
 use Rattle.steps.proofs.Changed.{marks-between, values-between, row-in}
 
-pub record Placed (T : Tables) (c : Counts) (s : Stop) (r : Row) : Type 0 where
+pub record Placed (T : Tables) (c : Counts) (s : Position) (r : Row) : Type 0 where
   pub row : s .row < length (T .heads)
   pub head : getD (T .heads) (s .row) 0 ≡ headWord r
   pub small : getD (T .heads) (s .row) 0 < 134217728
@@ -29,7 +29,7 @@ pub record Placed (T : Tables) (c : Counts) (s : Stop) (r : Row) : Type 0 where
   pub values-long : length (T .values) ≡ 1542
   pub good : Good r
 
-pub placed : (T : Tables) (c : Counts) (s : Stop) (A R : List Row) (r : Row) → Holds T c (A ++ r ∷ R) → s ≡ behind A → Placed T c s r
+pub placed : (T : Tables) (c : Counts) (s : Position) (A R : List Row) (r : Row) → Holds T c (A ++ r ∷ R) → s ≡ behind A → Placed T c s r
 unfolding AllNarrow
 placed T c s A R r H e =
     let p = at-behind s A e in

@@ -23,7 +23,7 @@ use Rattle.tables.specs.Holding.{marksRoom, valuesRoom, Holds, four}
 use Rattle.tables.specs.Parts.{at-behind, plain-six, values-length}
 use Rattle.tables.specs.Standing.{behind}
 use Rattle.tables.specs.declared.Counts.{Counts}
-use Rattle.tables.specs.declared.Stop.{Stop}
+use Rattle.tables.specs.declared.Position.{Position}
 use Rattle.steps.specs.Steps.{Drops, Adds, One, Sets}
 use Rattle.steps.proofs.Added.{six, six-is}
 use Rattle.steps.proofs.Changed.{marks-same, values-between, changed}
@@ -35,7 +35,7 @@ only [] e = absurd (omega arith)
 only (y ∷ []) e = (y, refl)
 only (y ∷ z ∷ vs) e = absurd (omega arith)
 
-pub has-one : (s : Stop) (d h v : List ℕ) → 1 ≡ valuesAt (getD h (s .row) 0) → s .value ≤ 256 → 6 * s .value + 6 ≤ length v
+pub has-one : (s : Position) (d h v : List ℕ) → 1 ≡ valuesAt (getD h (s .row) 0) → s .value ≤ 256 → 6 * s .value + 6 ≤ length v
     → covered d (getD v (6 * s .value) 0) ≡ true → One s d h v
 has-one s d h v n f l u = record {
   low = f;
@@ -53,7 +53,7 @@ put-alone : (d : List ℕ) (new y : Value) (vs : List Value) → vs ≡ y ∷ []
 unfolding clearValues keep put
 put-alone d new y vs e g = rw (e, g)
 
-pub sets-one : (s : Stop) (d : List ℕ) (id kind : ℕ) (words : List ℕ) (c : Counts) (h v v′ : List ℕ) → One s d h v
+pub sets-one : (s : Position) (d : List ℕ) (id kind : ℕ) (words : List ℕ) (c : Counts) (h v v′ : List ℕ) → One s d h v
     → v′ ≡ overAt (6 * s .value) (six id kind words) v → Sets s d id (kind ∷ words) c h v c h v′
 unfolding Sets clearValues
 sets-one s d id kind words c h v v′ O o k m A R r x H t u l w =
@@ -82,7 +82,7 @@ sets-one s d id kind words c h v v′ O o k m A R r x H t u l w =
     (H .marks ∙ ap (pad marksRoom) (marks-same A r r′ R refl)) M refl refl (omega (arith, ap length (Y .1), ap length q)) (H .marks-fit)
     (H .values-fit))
 
-pub sets-many : (s : Stop) (d : List ℕ) (id : ℕ) (w : List ℕ) (c b e : Counts) (h h₁ h′ v v₁ v′ : List ℕ) → Drops s d c h v b h₁ v₁
+pub sets-many : (s : Position) (d : List ℕ) (id : ℕ) (w : List ℕ) (c b e : Counts) (h h₁ h′ v v₁ v′ : List ℕ) → Drops s d c h v b h₁ v₁
     → Adds s id w b h₁ v₁ e h′ v′ → Sets s d id w c h v e h′ v′
 unfolding Drops Adds Sets clearValues
 sets-many s d id w c b e h h₁ h′ v v₁ v′ D X k m A R r x H t u l p =

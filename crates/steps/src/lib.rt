@@ -3,7 +3,7 @@
 mod value;
 
 use tables::Counts;
-use tables::Stop;
+use tables::Position;
 pub use value::set_value;
 use words::open;
 use words::rank;
@@ -93,7 +93,7 @@ fn marks_of(h: u64) -> usize
 }
 
 // The counts of tables whose marks have a gap in them, and where it stands.
-pub struct Gapped {
+pub struct WithGap {
     pub counts: Counts,
     pub gap: usize,
 }
@@ -104,11 +104,11 @@ pub fn mark_row(
     heads: &mut [u64],
     marks: &mut [u64],
     c: Counts,
-    s: Stop,
+    s: Position,
     id: u64,
     gap: usize,
     g: usize,
-) -> Gapped
+) -> WithGap
     ensures { λ r. ⌜ Marks s id c gap g (now (heads .entry)) (now (marks .entry)) (r .counts) (r .gap) (now (heads .exit))
         (now (marks .exit)) ⌝ }
 {
@@ -116,37 +116,37 @@ pub fn mark_row(
     let from = s.mark;
     let live = c.marks;
     if row >= heads.len() {
-        return Gapped { counts: c, gap };
+        return WithGap { counts: c, gap };
     }
     if live >= 1032 {
-        return Gapped { counts: c, gap };
+        return WithGap { counts: c, gap };
     }
     if g == 0 {
-        return Gapped { counts: c, gap };
+        return WithGap { counts: c, gap };
     }
     if gap > marks.len() {
-        return Gapped { counts: c, gap };
+        return WithGap { counts: c, gap };
     }
     if g > marks.len() - gap {
-        return Gapped { counts: c, gap };
+        return WithGap { counts: c, gap };
     }
     let h = heads[row];
     if h >= 134217728 {
-        return Gapped { counts: c, gap };
+        return WithGap { counts: c, gap };
     }
     let n = marks_of(h);
     if from > gap {
-        return Gapped { counts: c, gap };
+        return WithGap { counts: c, gap };
     }
     if n > gap - from {
-        return Gapped { counts: c, gap };
+        return WithGap { counts: c, gap };
     }
     let k = rank(marks, from, n, id);
     let at = from + k;
     open(marks, gap, at, g);
     marks[at + g - 1] = id;
     heads[row] = h + 128;
-    Gapped {
+    WithGap {
         counts: Counts {
             rows: c.rows,
             marks: live + 1,

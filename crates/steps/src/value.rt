@@ -2,7 +2,7 @@
 use counters::covered;
 use meaning::Counters;
 use tables::Counts;
-use tables::Stop;
+use tables::Position;
 use words::close;
 use words::keep_values;
 use words::open;
@@ -21,7 +21,7 @@ fn values_of(h: u64) -> usize
 }
 
 // Drops a row's values that d covers.
-fn drop_values(heads: &mut [u64], values: &mut [u64], c: Counts, s: Stop, d: Counters) -> Counts
+fn drop_values(heads: &mut [u64], values: &mut [u64], c: Counts, s: Position, d: Counters) -> Counts
     ensures { λ r. ⌜ Drops s (d .at) c (now (heads .entry)) (now (values .entry)) r (now (heads .exit)) (now (values .exit)) ⌝ }
 {
     let row = s.row;
@@ -61,7 +61,7 @@ fn add_value(
     heads: &mut [u64],
     values: &mut [u64],
     c: Counts,
-    s: Stop,
+    s: Position,
     id: u64,
     kind: u64,
     words: [u64; 4],
@@ -109,7 +109,7 @@ fn add_value(
 }
 
 // Whether a row has one value, and d covers it.
-fn has_one(heads: &[u64], values: &[u64], s: Stop, d: Counters) -> bool
+fn has_one(heads: &[u64], values: &[u64], s: Position, d: Counters) -> bool
     ensures { λ r. ⌜ HasOne s (d .at) (now (heads .entry)) (now (values .entry)) r ⌝ }
 {
     let row = s.row;
@@ -136,7 +136,7 @@ pub fn set_value(
     heads: &mut [u64],
     values: &mut [u64],
     c: Counts,
-    s: Stop,
+    s: Position,
     d: Counters,
     id: u64,
     kind: u64,

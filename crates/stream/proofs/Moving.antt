@@ -8,16 +8,16 @@ use mathlib.Core.Path.{_≡_, refl, sym, ap, _∙_}
 use mathlib.Core.List.{List, _++_}
 use lib.ListN.{length, take, drop, getD, set, length-set}
 use lib.Seq.{take-suc, take-suc-set, take-all, take-add, drop-set-lt, drop-drop, getD-take, getD-drop}
-use Rattle.stream.specs.Pieces.{held, Holds, Moved}
+use Rattle.stream.specs.Pieces.{held, CutInside, Moved}
 use Rattle.stream.specs.declared.Cut.{Cut}
 use Rattle.stream.proofs.Pieces.{drop-take, held-long}
 
 -- A chunk of n bytes was read behind the held ones, into the buffer s′.
-module _ (s s′ : List ℕ) (c : Cut) (n : ℕ) (h : Holds s c) (kept : take (c .to) s′ ≡ take (c .to) s) (fits : c .to + n ≤ length s′) where
+module _ (s s′ : List ℕ) (c : Cut) (n : ℕ) (h : CutInside s c) (kept : take (c .to) s′ ≡ take (c .to) s) (fits : c .to + n ≤ length s′) where
   abbrev pub grown : Cut
   grown = record { from = c .from; to = c .to + n; passing = c .passing }
 
-  pub grown-holds : Holds s′ grown
+  pub grown-holds : CutInside s′ grown
   grown-holds = record { low = omega (arith, h .low); high = fits; begun = λ p. omega (arith, h .begun p) }
 
   pub grown-held : held s′ grown ≡ held s c ++ take n (drop (c .to) s′)
@@ -40,7 +40,7 @@ pub record Moving (s : List ℕ) (c : Cut) (after : List ℕ) (i : ℕ) : Type 0
 pub moving-none : (s : List ℕ) (c : Cut) → Moving s c s 0
 moving-none s c = record { most = omega arith; long = refl; start = refl; rest = refl }
 
-module _ {s : List ℕ} {c : Cut} {after : List ℕ} {i : ℕ} (k : Moving s c after i) (h : Holds s c) where
+module _ {s : List ℕ} {c : Cut} {after : List ℕ} {i : ℕ} (k : Moving s c after i) (h : CutInside s c) where
   pub moving-more : i < c .to - c .from → Moving s c (set after i (getD after (c .from + i) 0)) (i + 1)
   moving-more l =
       let v = getD after (c .from + i) 0 in

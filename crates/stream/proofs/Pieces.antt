@@ -12,7 +12,7 @@ use lib.ListN.{length, take, drop, length-append, length-drop}
 use lib.Seq.{take-nil, take-take, take-append-le, drop-append-le, drop-drop, length-take-le}
 use borrow.Author.Tests.{lt-ltb, le-ltb, ltb-true, ltb-false}
 use Rattle.stream.specs.Ends.{first, Ends}
-use Rattle.stream.specs.Pieces.{Piece, whole, tooLong, judged, pieces, held, Holds, Hands, Waits, Steps}
+use Rattle.stream.specs.Pieces.{Piece, whole, tooLong, judged, pieces, held, CutInside, Hands, Waits, Steps}
 use Rattle.stream.specs.Steps.{behind, handed, tail, waiting}
 use Rattle.stream.specs.declared.Cut.{Cut}
 use Rattle.stream.specs.declared.Step.the-variants.{Message, TooLong}
@@ -61,7 +61,7 @@ module _ (s : List ℕ) (c : Cut) (e : ℕ) (low : c .from ≤ e) where
       sym (drop-take (e - c .from) (c .to - c .from) (drop (c .from) s) ∙ (ap (λ n. take n (drop (e - c .from) (drop (c .from) s))) f
       ∙ ap (λ l. take (c .to - e) l) (drop-drop (e - c .from) (c .from) s ∙ ap (λ n. drop n s) g)))
 
-module _ (s : List ℕ) (c : Cut) (h : Holds s c) where
+module _ (s : List ℕ) (c : Cut) (h : CutInside s c) where
   pub held-long : length (held s c) ≡ c .to - c .from
   held-long = length-take-le (c .to - c .from) (drop (c .from) s) (simp length-drop (omega (arith, h .low, h .high)))
 
@@ -151,7 +151,7 @@ goes-on p t d f h l =
     long true = refl
     long false = long-judged (take (first t) t) (omega (arith, length-take-le (first t) t (first-most t)))
 
-module _ (s : List ℕ) (c : Cut) (h : Holds s c) (none : first (held s c) ≡ length (held s c)) (some : c .from < c .to) where
+module _ (s : List ℕ) (c : Cut) (h : CutInside s c) (none : first (held s c) ≡ length (held s c)) (some : c .from < c .to) where
   -- no message ends in the held bytes: of too many, the last five are held on to
   tail-rest : 468 < c .to - c .from → (t : List ℕ) → pieces (c .passing) (held s c ++ t) ≡ pieces true (held s (tail c) ++ t)
   tail-rest l t =
@@ -195,7 +195,7 @@ append-none : (l : List ℕ) → l ++ [] ≡ l
 append-none [] = refl
 append-none (x ∷ l) = ap (λ m. x ∷ m) (append-none l)
 
-module _ (s : List ℕ) (c : Cut) (h : Holds s c) (e : ℕ) (found : Ends (take (c .to) s) (c .from) e) (some : c .from ≢ c .to)
+module _ (s : List ℕ) (c : Cut) (h : CutInside s c) (e : ℕ) (found : Ends (take (c .to) s) (c .from) e) (some : c .from ≢ c .to)
     (last : Bool) where
   place : e ≡ c .from + first (held s c)
   place = found .place ∙ ap (λ l. c .from + first l) (drop-take (c .from) (c .to) s)

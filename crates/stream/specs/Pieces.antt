@@ -30,21 +30,21 @@ abbrev pub held : List ℕ → Cut → List ℕ
 held s c = take (c .to - c .from) (drop (c .from) s)
 
 -- a cut lies in the buffer, and a message that is passed over has begun
-pub record Holds (s : List ℕ) (c : Cut) : Type 0 where
+pub record CutInside (s : List ℕ) (c : Cut) : Type 0 where
   pub low : c .from ≤ c .to
   pub high : c .to ≤ length s
   pub begun : c .passing ≡ true → c .from < c .to
 
 -- A piece is handed over, and the next ones stand behind it, whatever bytes t follow; none follow the last chunk.
 pub record Hands (s : List ℕ) (c : Cut) (last : Bool) (piece : Piece) (next : Cut) : Type 0 where
-  pub holds : Holds s next
+  pub holds : CutInside s next
   pub onward : c .from < next .from
   pub same : next .to ≡ c .to
   pub rest : (t : List ℕ) → (last ≡ true → t ≡ []) → pieces (c .passing) (held s c ++ t) ≡ piece ∷ pieces (next .passing) (held s next ++ t)
 
 -- More bytes are needed: at most 468 are held on to, and they come to the same; behind the last chunk nothing is left.
 pub record Waits (s : List ℕ) (c : Cut) (last : Bool) (next : Cut) : Type 0 where
-  pub holds : Holds s next
+  pub holds : CutInside s next
   pub short : next .to - next .from ≤ 468
   pub same : next .to ≡ c .to
   pub rest : (t : List ℕ) → pieces (c .passing) (held s c ++ t) ≡ pieces (next .passing) (held s next ++ t)
@@ -57,7 +57,7 @@ Steps s c last (More next) = Waits s c last next
 
 -- the held bytes stand at the buffer's start
 pub record Moved (s : List ℕ) (c : Cut) (after : List ℕ) (next : Cut) : Type 0 where
-  pub holds : Holds after next
+  pub holds : CutInside after next
   pub start : next .from ≡ 0
   pub end : next .to ≡ c .to - c .from
   pub passing : next .passing ≡ c .passing

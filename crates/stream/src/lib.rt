@@ -4,7 +4,7 @@ ghost use mathlib.Core.Path.{_≡_};
 ghost use Prim.Native.Nat.{_≤_};
 ghost use lib.ListN.{length, drop};
 ghost use Rattle.stream.specs.Ends.{startsWith, opens, Ends};
-ghost use Rattle.stream.specs.Pieces.{Holds, Steps, Moved};
+ghost use Rattle.stream.specs.Pieces.{CutInside, Steps, Moved};
 ghost use Rattle.stream.specs.Steps.{handed, waiting};
 
 // Where a program stands that reads a stream into a buffer: the bytes from `from` to `to` are read and not handed over; if `passing`, they
@@ -94,7 +94,7 @@ fn wait(c: Cut) -> Cut
 
 // The next piece of the stream, of which the buffer holds a part; `last` if no byte follows it.
 pub fn next_piece(buf: &[u8], c: Cut, last: bool) -> Step
-    requires { ⌜ Holds (now buf) c ⌝ }
+    requires { ⌜ CutInside (now buf) c ⌝ }
     ensures { λ r. ⌜ Steps (now (buf .entry)) c last r ⌝ }
 {
     let from = c.from;
@@ -114,7 +114,7 @@ pub fn next_piece(buf: &[u8], c: Cut, last: bool) -> Step
 
 // Moves the held bytes to the buffer's start, so that more can be read behind them.
 pub fn make_room(buf: &mut [u8], c: Cut) -> Cut
-    requires { ⌜ Holds (now buf) c ⌝ }
+    requires { ⌜ CutInside (now buf) c ⌝ }
     ensures { λ r. ⌜ Moved (now (buf .entry)) c (now (buf .exit)) r ⌝ }
 {
     let from = c.from;

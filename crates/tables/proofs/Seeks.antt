@@ -8,21 +8,21 @@ use mathlib.Core.Bool.{Bool, true, false}
 use mathlib.Core.List.{List, [], _∷_}
 use lib.ListN.{getD, take, drop, length-take, drop-of-length-le}
 use lib.Seq.{drop-cons, getD-take, getD-drop, drop-drop}
-use Rattle.tables.specs.declared.Stop.{Stop}
-use Rattle.tables.specs.declared.Want.{Want}
+use Rattle.tables.specs.declared.Position.{Position}
+use Rattle.tables.specs.declared.Search.{Search}
 use Rattle.tables.specs.Seek.{three, threeAt, goesOver, further, seekWords, Searches, sought}
 
 -- one row
-seek-cons : (w : Want) (h : ℕ) (hs ks : List ℕ) (s : Stop) (b : Bool) → goesOver w h (three ks) ≡ b
+seek-cons : (w : Search) (h : ℕ) (hs ks : List ℕ) (s : Position) (b : Bool) → goesOver w h (three ks) ≡ b
     → seekWords w (h ∷ hs) ks s ≡ elim b [ true ↦ seekWords w hs (drop 3 ks) (further s h) | false ↦ s ]
 unfolding seekWords
 seek-cons w h hs ks s b e = rw (e, seekWords)
 
-seek-none : (w : Want) (ks : List ℕ) (s : Stop) → seekWords w [] ks s ≡ s
+seek-none : (w : Search) (ks : List ℕ) (s : Position) → seekWords w [] ks s ≡ s
 unfolding seekWords
 seek-none w ks s = refl
 
-module _ (w : Want) (heads keys : List ℕ) (rows : ℕ) (s : Stop) (ok : Searches heads keys rows s) where
+module _ (w : Search) (heads keys : List ℕ) (rows : ℕ) (s : Position) (ok : Searches heads keys rows s) where
   -- it is at the end
   pub sought-end : rows ≤ s .row → sought w heads keys rows s ≡ s
   sought-end h =

@@ -15,9 +15,9 @@ use Rattle.rows.specs.Blocks.{passed, over, at, keyBelow, isKey, isId, isGreate
 use Rattle.readers.specs.Words.{pack}
 use Rattle.readers.specs.Order.{words-order}
 use Rattle.tables.specs.Words.{bit, side, headWord, depthIn, sideIn, marksAt, valuesAt, spotWords, headsOf, keysOf}
-use Rattle.tables.specs.Seek.{three, turn, turnNumber, passesOne, goesOver, isWanted, further, seekWords}
-use Rattle.tables.specs.declared.Stop.{Stop}
-use Rattle.tables.specs.declared.Want.{Want}
+use Rattle.tables.specs.Seek.{three, turn, turnNumber, passesOne, goesOver, isSought, further, seekWords}
+use Rattle.tables.specs.declared.Position.{Position}
+use Rattle.tables.specs.declared.Search.{Search}
 
 -- a row that its words can hold
 abbrev pub GoodSpot : Spot → Type 0
@@ -58,15 +58,15 @@ module _ (r : Row) (h : Narrow r) where
   values-in = omega (arith, h .depth, h .marks, h .values, side-small (r .spot), bit-small (r .map), bit-small (r .list))
 
 -- one row on, as its head says, and the place behind some rows that begin at s
-abbrev pub past : Stop → Row → Stop
-past s r = record { row = s .row + 1; mark = s .mark + length (r .marks); value = s .value + length (r .values) }
+abbrev pub nextRow : Position → Row → Position
+nextRow s r = record { row = s .row + 1; mark = s .mark + length (r .marks); value = s .value + length (r .values) }
 
-pub further-same : (r : Row) → Narrow r → (s : Stop) → further s (headWord r) ≡ past s r
+pub further-same : (r : Row) → Narrow r → (s : Position) → further s (headWord r) ≡ nextRow s r
 further-same r h s = rw (marks-in r h, values-in r h)
 
-unfoldable pub after : Stop → List Row → Stop
+unfoldable pub after : Position → List Row → Position
 after s [] = s
-after s (r ∷ rs) = after (past s r) rs
+after s (r ∷ rs) = after (nextRow s r) rs
 
 -- the words of the row at the start
 pub three-here : (p : Spot) (ks qs : List ℕ) → three ((spotWords p ++ ks) ++ qs) ≡ three (spotWords p)
@@ -78,7 +78,7 @@ keys-on (inMap k) ks qs = refl
 keys-on (inList i) ks qs = refl
 
 -- the search w goes over, of the rows of its depth, those whose spot passes
-abbrev pub Agrees : Want → (Spot → Bool) → Type 0
+abbrev pub Agrees : Search → (Spot → Bool) → Type 0
 Agrees w pass = (p : Spot) → GoodSpot p → passesOne w (side p) (three (spotWords p)) ≡ pass p
 
 both : (b c e : Bool) → cond b true (cond c e false) ≡ b || (c && e)
@@ -86,7 +86,7 @@ both true c e = refl
 both false true e = refl
 both false false e = refl
 
-module _ (w : Want) (pass : Spot → Bool) (agrees : Agrees w pass) where
+module _ (w : Search) (pass : Spot → Bool) (agrees : Agrees w pass) where
   over-same : (r : Row) → Narrow r → (ks qs : List ℕ)
       → goesOver w (headWord r) (three ((spotWords (r .spot) ++ ks) ++ qs)) ≡ over (w .depth) pass r
   unfolding goesOver
@@ -94,7 +94,7 @@ module _ (w : Want) (pass : Spot → Bool) (agrees : Agrees w pass) where
       rw (depth-in r h, side-in r h, three-here (r .spot) ks qs, agrees (r .spot) (h .spot))
       (both (ltb (w .depth) (r .depth)) (eqb (r .depth) (w .depth)) (pass (r .spot)))
 
-  pub finds : (rs : List Row) → AllNarrow rs → (qs : List ℕ) (s : Stop)
+  pub finds : (rs : List Row) → AllNarrow rs → (qs : List ℕ) (s : Position)
       → seekWords w (headsOf rs) (keysOf rs ++ qs) s ≡ after s (passed (over (w .depth) pass) rs)
   unfolding seekWords headsOf keysOf after passed AllNarrow
   finds [] h qs s = refl
@@ -104,7 +104,7 @@ module _ (w : Want) (pass : Spot → Bool) (agrees : Agrees w pass) where
       there = sym (over-same r (h .0) (keysOf rs) qs)
 
       go : (b : Bool) → over (w .depth) pass r ≡ b
-          → ((s : Stop) → seekWords w (headsOf rs) (keysOf rs ++ qs) s ≡ after s (passed (over (w .depth) pass) rs))
+          → ((s : Position) → seekWords w (headsOf rs) (keysOf rs ++ qs) s ≡ after s (passed (over (w .depth) pass) rs))
           → seekWords w (headsOf (r ∷ rs)) (keysOf (r ∷ rs) ++ qs) s ≡ after s (passed (over (w .depth) pass) (r ∷ rs))
       go true e rec =
           rw (sym there ∙ e, e, seekWords, passed)
@@ -114,19 +114,19 @@ module _ (w : Want) (pass : Spot → Bool) (agrees : Agrees w pass) where
 
 -- The searches of an operation: a key, an element, the seat of a new element behind its predecessor or behind the head, the end of a block.
 
-abbrev pub wantKey : ℕ → List ℕ → Want
+abbrev pub wantKey : ℕ → List ℕ → Search
 wantKey n k = record { kind = 0; depth = n; hi = pack 8 k; lo = pack 8 (drop 8 k); len = length k }
 
-abbrev pub wantElement : ℕ → ℕ → Want
+abbrev pub wantElement : ℕ → ℕ → Search
 wantElement n e = record { kind = 1; depth = n; hi = e; lo = 0; len = 17 }
 
-abbrev pub wantSeat : ℕ → ℕ → Want
+abbrev pub wantSeat : ℕ → ℕ → Search
 wantSeat n i = record { kind = 2; depth = n; hi = i; lo = 0; len = 17 }
 
-abbrev pub wantHead : ℕ → ℕ → Want
+abbrev pub wantHead : ℕ → ℕ → Search
 wantHead n i = record { kind = 3; depth = n; hi = i; lo = 0; len = 17 }
 
-abbrev pub wantEnd : ℕ → Want
+abbrev pub wantEnd : ℕ → Search
 wantEnd n = record { kind = 4; depth = n; hi = 0; lo = 0; len = 0 }
 
 two : (t : Turn) → eqb (turnNumber t) 2 ≡ elim t [ before ↦ false | equal ↦ false | beyond ↦ true ]
@@ -165,15 +165,15 @@ module _ (n : ℕ) where
   end-agrees p h = refl
 
 -- Whether the row where the search stopped is the one that was looked for.
-abbrev pub Tells : Want → (Spot → Bool) → Type 0
-Tells w meant = (r : Row) → Narrow r → isWanted w (headWord r) (three (spotWords (r .spot))) ≡ at (w .depth) meant r
+abbrev pub Tells : Search → (Spot → Bool) → Type 0
+Tells w meant = (r : Row) → Narrow r → isSought w (headWord r) (three (spotWords (r .spot))) ≡ at (w .depth) meant r
 
 narrowed : (c b : Bool) → cond c b false ≡ c && b
 narrowed true b = refl
 narrowed false b = refl
 
 pub key-tells : (n : ℕ) (k : List ℕ) → ValidKey k → Tells (wantKey n k) (isKey k)
-unfolding isWanted
+unfolding isSought
 key-tells n k v r h = rw (depth-in r h, side-in r h) (go (r .spot) (h .spot))
   where
     go : (p : Spot) → GoodSpot p
@@ -184,7 +184,7 @@ key-tells n k v r h = rw (depth-in r h, side-in r h) (go (r .spot) (h .spot))
     go (inList i) g = narrowed (eqb (r .depth) n) false
 
 pub element-tells : (n e : ℕ) → Tells (wantElement n e) (isId e)
-unfolding isWanted
+unfolding isSought
 element-tells n e r h = rw (depth-in r h, side-in r h) (go (r .spot))
   where
     go : (p : Spot) → cond (eqb (r .depth) n) (cond (eqb (side p) 0) false (eqb e (three (spotWords p) .hi))) false

@@ -15,11 +15,11 @@ use Rattle.theorems.specs.Accepting.{marks-append, values-append}
 use Rattle.words.proofs.Padded.{pad-length}
 use Rattle.tables.specs.Words.{valueWords, plainWords, eachValue, headWord, spotWords, Tables}
 use Rattle.tables.specs.Words.{headsOf, keysOf, marksOf, valuesOf, pad}
-use Rattle.tables.specs.Finds.{Narrow, AllNarrow, past, after}
+use Rattle.tables.specs.Finds.{Narrow, AllNarrow, nextRow, after}
 use Rattle.tables.specs.Standing.{first, behind, heads-append, keys-append, heads-length, keys-length}
 use Rattle.tables.specs.Holding.{headsRoom, keysRoom, marksRoom, valuesRoom, Good, Holds}
 use Rattle.tables.specs.declared.Counts.{Counts}
-use Rattle.tables.specs.declared.Stop.{Stop}
+use Rattle.tables.specs.declared.Position.{Position}
 
 -- How long the live words are.
 
@@ -62,7 +62,7 @@ values-of-append [] b = refl
 values-of-append (r ∷ a) b =
     ap (eachValue (r .values) ++_) (values-of-append a b) ∙ sym (append-assoc (eachValue (r .values)) (valuesOf a) (valuesOf b))
 
-after-is : (s : Stop) (a : List Row)
+after-is : (s : Position) (a : List Row)
     → after s a ≡ record { row = s .row + length a; mark = s .mark + marksIn a; value = s .value + valuesIn a }
 unfolding after marksIn valuesIn
 after-is s [] =
@@ -74,7 +74,7 @@ after-is s (r ∷ a) =
     let e : s .row + 1 + length a ≡ s .row + length (r ∷ a) = omega arith in
     let f : s .mark + length (r .marks) + marksIn a ≡ s .mark + (length (r .marks) + marksIn a) = omega arith in
     let g : s .value + length (r .values) + valuesIn a ≡ s .value + (length (r .values) + valuesIn a) = omega arith in
-    after-is (past s r) a ∙ rw (e, f, g)
+    after-is (nextRow s r) a ∙ rw (e, f, g)
 
 -- where the first of the rows behind `a` stands
 pub behind-is : (a : List Row) → behind a ≡ record { row = length a; mark = marksIn a; value = valuesIn a }
@@ -84,17 +84,17 @@ behind-is a =
     let g : 0 + valuesIn a ≡ valuesIn a = omega arith in
     after-is first a ∙ rw (e, f, g)
 
-pub record At (s : Stop) (a : List Row) : Type 0 where
+pub record At (s : Position) (a : List Row) : Type 0 where
   pub row : s .row ≡ length a
   pub mark : s .mark ≡ marksIn a
   pub value : s .value ≡ valuesIn a
 
-pub at-behind : (s : Stop) (a : List Row) → s ≡ behind a → At s a
+pub at-behind : (s : Position) (a : List Row) → s ≡ behind a → At s a
 at-behind s a e =
     let f = e ∙ behind-is a in
     record { row = ap (λ s. s .row) f; mark = ap (λ s. s .mark) f; value = ap (λ s. s .value) f }
 
-pub behind-at : (s : Stop) (a : List Row) → At s a → s ≡ behind a
+pub behind-at : (s : Position) (a : List Row) → At s a → s ≡ behind a
 behind-at s a h = rw (sym (h .row), sym (h .mark), sym (h .value)) at (sym (behind-is a))
 
 -- all of some rows, and of others

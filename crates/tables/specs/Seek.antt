@@ -9,8 +9,8 @@ use lib.ListN.{length, getD, take, drop}
 use Rattle.meaning.specs.Places.{Turn, before, equal, beyond, order}
 use Rattle.readers.specs.Reads.{either}
 use Rattle.tables.specs.Words.{depthIn, sideIn, marksAt, valuesAt}
-use Rattle.tables.specs.declared.Stop.{Stop}
-use Rattle.tables.specs.declared.Want.{Want}
+use Rattle.tables.specs.declared.Position.{Position}
+use Rattle.tables.specs.declared.Search.{Search}
 
 -- a key's three words, or an element's id and two more
 pub record Three : Type 0 where
@@ -26,7 +26,7 @@ abbrev pub threeAt : List ℕ → ℕ → Three
 threeAt keys n = record { hi = getD keys (3 * n) 0; lo = getD keys (3 * n + 1) 0; len = getD keys (3 * n + 2) 0 }
 
 -- what is looked for, beside the key k
-abbrev pub turn : Want → Three → Turn
+abbrev pub turn : Search → Three → Turn
 turn w k = order (w .hi ∷ w .lo ∷ w .len ∷ []) (k .hi ∷ k .lo ∷ k .len ∷ [])
 
 abbrev pub turnNumber : Turn → ℕ
@@ -35,7 +35,7 @@ turnNumber equal = 1
 turnNumber beyond = 2
 
 -- of the rows of the depth that is looked at, those that are gone over: by kind, under a map (side 0) or a list
-unfoldable pub passesOne : Want → ℕ → Three → Bool
+unfoldable pub passesOne : Search → ℕ → Three → Bool
 passesOne w s k =
     cond (eqb (w .kind) 0) (cond (eqb s 0) (eqb (turnNumber (turn w k)) 2) false)
     (cond (eqb (w .kind) 1) (cond (eqb s 0) true (not (eqb (w .hi) (k .hi))))
@@ -43,38 +43,38 @@ passesOne w s k =
     (cond (eqb (w .kind) 3) (cond (eqb s 0) true (ltb (w .hi) (k .hi))) false)))
 
 -- deeper rows hang under one that was gone over
-unfoldable pub goesOver : Want → ℕ → Three → Bool
+unfoldable pub goesOver : Search → ℕ → Three → Bool
 goesOver w h k = cond (ltb (w .depth) (depthIn h)) true (cond (eqb (depthIn h) (w .depth)) (passesOne w (sideIn h) k) false)
 
 -- the row that is looked for: a key, or an element
-unfoldable pub isWanted : Want → ℕ → Three → Bool
-isWanted w h k =
+unfoldable pub isSought : Search → ℕ → Three → Bool
+isSought w h k =
     cond (eqb (depthIn h) (w .depth))
     (cond (eqb (w .kind) 0) (cond (eqb (sideIn h) 0) (eqb (turnNumber (turn w k)) 1) false)
     (cond (eqb (w .kind) 1) (cond (eqb (sideIn h) 0) false (eqb (w .hi) (k .hi))) false))
     false
 
 -- one row further
-abbrev pub further : Stop → ℕ → Stop
+abbrev pub further : Position → ℕ → Position
 further s h = record { row = s .row + 1; mark = s .mark + marksAt h; value = s .value + valuesAt h }
 
 -- at most 1024 rows are before it, by the greatest counts that their heads can give them
-pub record Few (s : Stop) : Type 0 where
+pub record Few (s : Position) : Type 0 where
   pub row : s .row ≤ 1024
   pub mark : s .mark ≤ 2097152
   pub value : s .value ≤ 524288
 
 -- r is the place behind the row at s
-abbrev pub Passes : List ℕ → Stop → Stop → Type 0
+abbrev pub Passes : List ℕ → Position → Position → Type 0
 Passes heads s r = Few s → r ≡ further s (getD heads (s .row) 0)
 
 -- where the search through these heads and keys stops, which begin at s
-unfoldable pub seekWords : Want → List ℕ → List ℕ → Stop → Stop
+unfoldable pub seekWords : Search → List ℕ → List ℕ → Position → Position
 seekWords w [] ks s = s
 seekWords w (h ∷ hs) ks s = elim (goesOver w h (three ks)) [ true ↦ seekWords w hs (drop 3 ks) (further s h) | false ↦ s ]
 
 -- there are so many rows, and the search begins at one of them or behind the last; no sum of counts is too large
-pub record Searches (heads keys : List ℕ) (rows : ℕ) (s : Stop) : Type 0 where
+pub record Searches (heads keys : List ℕ) (rows : ℕ) (s : Position) : Type 0 where
   pub in-heads : rows ≤ length heads
   pub in-keys : 3 * rows ≤ length keys
   pub few : rows ≤ 1024
@@ -87,5 +87,5 @@ abbrev pub holdsIf : Bool → Type 0 → Type 0
 holdsIf b P = either b P (P → ⊥)
 
 -- in tables with this many rows
-abbrev pub sought : Want → List ℕ → List ℕ → ℕ → Stop → Stop
+abbrev pub sought : Search → List ℕ → List ℕ → ℕ → Position → Position
 sought w heads keys rows s = seekWords w (drop (s .row) (take rows heads)) (drop (3 * s .row) keys) s

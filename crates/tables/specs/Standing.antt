@@ -11,26 +11,26 @@ use Rattle.meaning.specs.Sheet.{Spot, inMap, inList, Row}
 use Rattle.rows.specs.Blocks.{passed, over}
 use Rattle.tables.specs.Words.{spotWords, headWord, headsOf, keysOf}
 use Rattle.tables.specs.Seek.{seekWords, sought}
-use Rattle.tables.specs.Finds.{AllNarrow, past, after, Agrees, finds}
-use Rattle.tables.specs.declared.Stop.{Stop}
-use Rattle.tables.specs.declared.Want.{Want}
+use Rattle.tables.specs.Finds.{AllNarrow, nextRow, after, Agrees, finds}
+use Rattle.tables.specs.declared.Position.{Position}
+use Rattle.tables.specs.declared.Search.{Search}
 
 -- the place of the first row, and that behind some rows at the start of the tables
-abbrev pub first : Stop
+abbrev pub first : Position
 first = record { row = 0; mark = 0; value = 0 }
 
-abbrev pub behind : List Row → Stop
+abbrev pub behind : List Row → Position
 behind rs = after first rs
 
-pub after-more : (s : Stop) (a b : List Row) → after s (a ++ b) ≡ after (after s a) b
+pub after-more : (s : Position) (a b : List Row) → after s (a ++ b) ≡ after (after s a) b
 unfolding after
 after-more s [] b = refl
 after-more s (r ∷ a) b = after-more _ a b
 
-pub after-row : (s : Stop) (a : List Row) → after s a .row ≡ s .row + length a
+pub after-row : (s : Position) (a : List Row) → after s a .row ≡ s .row + length a
 unfolding after
 after-row s [] = omega arith
-after-row s (r ∷ a) = omega (arith, after-row (past s r) a)
+after-row s (r ∷ a) = omega (arith, after-row (nextRow s r) a)
 
 behind-row : (a : List Row) → behind a .row ≡ length a
 behind-row a = after-row first a ∙ (let z : 0 + length a ≡ length a = omega arith in z)
@@ -74,7 +74,7 @@ module _ (a b : List Row) (hs ks : List ℕ) where
       ∙ (ap (drop (length (keysOf a))) (append-assoc (keysOf a) (keysOf b) ks) ∙ drop-append-seam (keysOf a) (keysOf b ++ ks)))
 
   -- a search from the first of the rows b stops behind those that it goes over
-  pub found : (w : Want) (pass : Spot → Bool) → Agrees w pass → AllNarrow b
+  pub found : (w : Search) (pass : Spot → Bool) → Agrees w pass → AllNarrow b
       → sought w (headsOf (a ++ b) ++ hs) (keysOf (a ++ b) ++ ks) (length (a ++ b)) (behind a)
       ≡ behind (a ++ passed (over (w .depth) pass) b)
   found w pass agrees h =

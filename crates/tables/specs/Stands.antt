@@ -12,23 +12,23 @@ use Rattle.meaning.specs.Load.{marksIn, valuesIn}
 use Rattle.meaning.specs.Sheet.{Spot, Row}
 use Rattle.rows.specs.Blocks.{passed, over, at}
 use Rattle.tables.specs.Words.{headWord, spotWords, headsOf, keysOf}
-use Rattle.tables.specs.Seek.{three, threeAt, isWanted, Searches, further, Passes, sought}
-use Rattle.tables.specs.Finds.{AllNarrow, past, further-same, after, Agrees, Tells, three-here}
+use Rattle.tables.specs.Seek.{three, threeAt, isSought, Searches, further, Passes, sought}
+use Rattle.tables.specs.Finds.{AllNarrow, nextRow, further-same, after, Agrees, Tells, three-here}
 use Rattle.tables.specs.Standing.{first, behind, after-more, heads-length, keys-from, found}
 use Rattle.tables.specs.Holding.{Holds, four, begins}
 use Rattle.tables.specs.Parts.{at-behind, holds-narrow, heads-long, keys-long, heads-parts, all-narrow-left, all-narrow-right}
 use Rattle.tables.specs.declared.Counts.{Counts}
-use Rattle.tables.specs.declared.Stop.{Stop}
-use Rattle.tables.specs.declared.Want.{Want}
+use Rattle.tables.specs.declared.Position.{Position}
+use Rattle.tables.specs.declared.Search.{Search}
 
 -- the search w from a row on, which passes over the rows of its depth whose spot passes, stops behind those
-abbrev pub FindsIn : List ℕ → List ℕ → ℕ → Stop → Want → Stop → Type 0
+abbrev pub FindsIn : List ℕ → List ℕ → ℕ → Position → Search → Position → Type 0
 FindsIn h k rows from w r =
     (m v : List ℕ) (c : Counts) (A B : List Row) (pass : Spot → Bool) → Holds (four h k m v) c (A ++ B) → rows ≡ c .rows → from ≡ behind A
     → Agrees w pass → r ≡ behind (A ++ passed (over (w .depth) pass) B)
 
 -- whether the row that stands here is the one that is meant
-abbrev pub Knows : List ℕ → List ℕ → ℕ → ℕ → Want → Bool → Type 0
+abbrev pub Knows : List ℕ → List ℕ → ℕ → ℕ → Search → Bool → Type 0
 Knows h k rows here w r =
     (m v : List ℕ) (c : Counts) (A B : List Row) (meant : Spot → Bool) → Holds (four h k m v) c (A ++ B) → rows ≡ c .rows
     → here ≡ length A → Tells w meant → r ≡ begins (w .depth) meant B
@@ -44,7 +44,7 @@ few-values [] n = omega arith
 few-values (r ∷ rs) n = omega (arith, n .0 .values, few-values rs (n .1))
 
 module _ (h k m v : List ℕ) (c : Counts) (A B : List Row) (H : Holds (four h k m v) c (A ++ B)) where
-  pub may-search : (rows : ℕ) (s : Stop) → rows ≡ c .rows → s ≡ behind A → Searches h k rows s
+  pub may-search : (rows : ℕ) (s : Position) → rows ≡ c .rows → s ≡ behind A → Searches h k rows s
   may-search rows s e b =
       let a = at-behind s A b in
       let n = all-narrow-left A B (holds-narrow (four h k m v) c (A ++ B) H) in
@@ -60,7 +60,7 @@ module _ (h k m v : List ℕ) (c : Counts) (A B : List Row) (H : Holds (four h k
         values = omega (arith, a .row, a .value, few-values A n);
       }
 
-  pub search-stops : (w : Want) (pass : Spot → Bool) (rows : ℕ) (s : Stop) → rows ≡ c .rows → s ≡ behind A → Agrees w pass
+  pub search-stops : (w : Search) (pass : Spot → Bool) (rows : ℕ) (s : Position) → rows ≡ c .rows → s ≡ behind A → Agrees w pass
       → sought w h k rows s ≡ behind (A ++ passed (over (w .depth) pass) B)
   search-stops w pass rows s e b g =
       ap₂ (λ n t. sought w h k n t) (e ∙ H .rows-are) b
@@ -87,29 +87,29 @@ module _ (h k m v : List ℕ) (c : Counts) (A R : List Row) (r : Row) (H : Holds
       ∙ (ap (λ l. three (drop (3 * length A) l)) (H .keys) ∙ (ap three (keys-from A (r ∷ R) [] _) ∙ three-here (r .spot) (keysOf R) _))
 
   -- it is told
-  pub wanted-at : (w : Want) (meant : Spot → Bool) → Tells w meant
-      → isWanted w (getD h (length A) 0) (threeAt k (length A)) ≡ at (w .depth) meant r
+  pub wanted-at : (w : Search) (meant : Spot → Bool) → Tells w meant
+      → isSought w (getD h (length A) 0) (threeAt k (length A)) ≡ at (w .depth) meant r
   unfolding AllNarrow
   wanted-at w meant t =
-      ap₂ (isWanted w) head-at key-at
+      ap₂ (isSought w) head-at key-at
       ∙ t r (all-narrow-right A (r ∷ R) (holds-narrow (four h k m v) c (A ++ r ∷ R) H) .0)
 
   -- the place behind it
-  pub row-past : (s : Stop) → s ≡ behind A → further s (getD h (s .row) 0) ≡ behind (A ++ r ∷ [])
+  pub row-past : (s : Position) → s ≡ behind A → further s (getD h (s .row) 0) ≡ behind (A ++ r ∷ [])
   unfolding AllNarrow after
   row-past s b =
       let N = all-narrow-right A (r ∷ R) (holds-narrow (four h k m v) c (A ++ r ∷ R) H) .0 in
       ap (λ i. further s (getD h i 0)) (at-behind s A b .row)
-      ∙ (ap (further s) head-at ∙ (further-same r N s ∙ (ap (λ s. past s r) b ∙ sym (after-more first A (r ∷ [])))))
+      ∙ (ap (further s) head-at ∙ (further-same r N s ∙ (ap (λ s. nextRow s r) b ∙ sym (after-more first A (r ∷ [])))))
 
-  pub passes : (s p : Stop) → Passes h s p → s ≡ behind A → p ≡ behind (A ++ r ∷ [])
+  pub passes : (s p : Position) → Passes h s p → s ≡ behind A → p ≡ behind (A ++ r ∷ [])
   passes s p P b =
       let S = may-search h k m v c A (r ∷ R) H (c .rows) s refl b in
       let few : s .row ≤ 1024 = omega (arith, S .begins, S .few) in
       P (record { row = few; mark = omega (arith, few, S .marks); value = omega (arith, few, S .values) }) ∙ row-past s b
 
 -- what `known` comes to: where it looks at no row there is none, and else at the row that stands there
-module _ (h k : List ℕ) (rows here : ℕ) (w : Want) where
+module _ (h k : List ℕ) (rows here : ℕ) (w : Search) where
   pub knows-none : (rows ≤ here) → Knows h k rows here w false
   knows-none e m v c A [] meant H q l t = refl
   knows-none e m v c A (r ∷ R) meant H q l t =
@@ -120,6 +120,6 @@ module _ (h k : List ℕ) (rows here : ℕ) (w : Want) where
   knows-out n m v c A [] meant H q l t = refl
   knows-out n m v c A (r ∷ R) meant H q l t = absurd (n m v c A R r H l)
 
-  pub knows-row : here < rows → Knows h k rows here w (isWanted w (getD h here 0) (threeAt k here))
+  pub knows-row : here < rows → Knows h k rows here w (isSought w (getD h here 0) (threeAt k here))
   knows-row e m v c A [] meant H q l t = absurd (omega (arith, H .rows-are, length-append A []))
   knows-row e m v c A (r ∷ R) meant H q l t = rw l (wanted-at h k m v c A R r H w meant t)

@@ -4,12 +4,12 @@
 ghost use mathlib.Core.Path.{_≡_};
 ghost use Prim.Native.Nat.{_+_, _*_, _-_, _≤_, _<_};
 ghost use lib.ListN.{length, getD};
-ghost use Rattle.tables.specs.Seek.{turn, turnNumber, passesOne, goesOver, isWanted, Passes, Searches, holdsIf, sought};
-ghost use Rattle.tables.specs.Wants.{wantOf};
+ghost use Rattle.tables.specs.Seek.{turn, turnNumber, passesOne, goesOver, isSought, Passes, Searches, holdsIf, sought};
+ghost use Rattle.tables.specs.Wants.{searchOf};
 ghost use Rattle.tables.specs.Stands.{FindsIn, Knows};
 
 // A place in the tables: a row, and how many marks and values the rows before it have.
-pub struct Stop {
+pub struct Position {
     pub row: usize,
     pub mark: usize,
     pub value: usize,
@@ -24,7 +24,7 @@ pub struct Counts {
 
 // What is looked for among the rows of a depth: a key by its three words (kind 0), an element by its id (1), the seat of a new element
 // (2; from the head 3), or the end of what hangs there (4).
-pub struct Want {
+pub struct Search {
     pub kind: u64,
     pub depth: u64,
     pub hi: u64,
@@ -40,7 +40,7 @@ pub fn word(t: &[u64], i: usize) -> u64
 }
 
 // The place behind a row, by the row's head. Where no row of a table can stand, that place itself.
-pub fn past(heads: &[u64], s: Stop) -> Stop
+pub fn next_row(heads: &[u64], s: Position) -> Position
     ensures { λ r. ⌜ Passes (now (heads .entry)) s r ⌝ }
 {
     if s.row > 1024 {
@@ -53,7 +53,7 @@ pub fn past(heads: &[u64], s: Stop) -> Stop
         return s;
     }
     let h = word(heads, s.row);
-    Stop {
+    Position {
         row: s.row + 1,
         mark: s.mark + (h / 128 % 2048) as usize,
         value: s.value + (h / 262144 % 512) as usize,
@@ -61,11 +61,11 @@ pub fn past(heads: &[u64], s: Stop) -> Stop
 }
 
 // The search for a key or an element among the rows of depth n, by its three words: in an element's third stands 17.
-pub fn want_of(n: u64, hi: u64, lo: u64, len: u64) -> Want
-    ensures { λ r. ⌜ r ≡ wantOf n hi lo len ⌝ }
+pub fn search_of(n: u64, hi: u64, lo: u64, len: u64) -> Search
+    ensures { λ r. ⌜ r ≡ searchOf n hi lo len ⌝ }
 {
     if len > 16 {
-        return Want {
+        return Search {
             kind: 1,
             depth: n,
             hi,
@@ -73,7 +73,7 @@ pub fn want_of(n: u64, hi: u64, lo: u64, len: u64) -> Want
             len,
         };
     }
-    Want {
+    Search {
         kind: 0,
         depth: n,
         hi,
@@ -83,7 +83,7 @@ pub fn want_of(n: u64, hi: u64, lo: u64, len: u64) -> Want
 }
 
 // The key that is looked for, beside a row's: before it (0), the same (1), or beyond it (2).
-fn turn_of(w: Want, hi: u64, lo: u64, len: u64) -> u64
+fn turn_of(w: Search, hi: u64, lo: u64, len: u64) -> u64
     ensures { λ r. ⌜ r ≡ turnNumber (turn w (record { hi = hi; lo = lo; len = len })) ⌝ }
 {
     if w.hi < hi {
@@ -108,7 +108,7 @@ fn turn_of(w: Want, hi: u64, lo: u64, len: u64) -> u64
 }
 
 // Of the rows of the depth that is looked at, those that are gone over.
-fn passes_one(w: Want, side: u64, hi: u64, lo: u64, len: u64) -> bool
+fn passes_one(w: Search, side: u64, hi: u64, lo: u64, len: u64) -> bool
     ensures { λ r. ⌜ r ≡ passesOne w side (record { hi = hi; lo = lo; len = len }) ⌝ }
 {
     let kind = w.kind;
@@ -139,7 +139,7 @@ fn passes_one(w: Want, side: u64, hi: u64, lo: u64, len: u64) -> bool
     false
 }
 
-fn goes_over(w: Want, h: u64, hi: u64, lo: u64, len: u64) -> bool
+fn goes_over(w: Search, h: u64, hi: u64, lo: u64, len: u64) -> bool
     ensures { λ r. ⌜ r ≡ goesOver w h (record { hi = hi; lo = lo; len = len }) ⌝ }
 {
     let d = h % 16;
@@ -153,8 +153,8 @@ fn goes_over(w: Want, h: u64, hi: u64, lo: u64, len: u64) -> bool
 }
 
 // Whether a row is the one that is looked for.
-pub fn is_wanted(w: Want, h: u64, hi: u64, lo: u64, len: u64) -> bool
-    ensures { λ r. ⌜ r ≡ isWanted w h (record { hi = hi; lo = lo; len = len }) ⌝ }
+pub fn is_sought(w: Search, h: u64, hi: u64, lo: u64, len: u64) -> bool
+    ensures { λ r. ⌜ r ≡ isSought w h (record { hi = hi; lo = lo; len = len }) ⌝ }
 {
     if h % 16 != w.depth {
         return false;
@@ -177,7 +177,7 @@ pub fn is_wanted(w: Want, h: u64, hi: u64, lo: u64, len: u64) -> bool
 }
 
 // Where the search from a place on stops: before the first row that isn't gone over.
-pub fn seek(heads: &[u64], keys: &[u64], rows: usize, from: Stop, w: Want) -> Stop
+pub fn seek(heads: &[u64], keys: &[u64], rows: usize, from: Position, w: Search) -> Position
     requires { ⌜ Searches (now heads) (now keys) rows from ⌝ }
     ensures { λ r. ⌜ r ≡ sought w (now (heads .entry)) (now (keys .entry)) rows from ⌝ }
 {
@@ -188,7 +188,7 @@ pub fn seek(heads: &[u64], keys: &[u64], rows: usize, from: Stop, w: Want) -> St
         if !goes_over(w, h, keys[3 * row], keys[3 * row + 1], keys[3 * row + 2]) {
             return at;
         }
-        at = Stop {
+        at = Position {
             row: row + 1,
             mark: at.mark + (h / 128 % 2048) as usize,
             value: at.value + (h / 262144 % 512) as usize,
@@ -198,7 +198,7 @@ pub fn seek(heads: &[u64], keys: &[u64], rows: usize, from: Stop, w: Want) -> St
 }
 
 // Whether a search may begin there: the rows are in the tables, and the place is one of them or behind the last.
-fn may_begin(heads: &[u64], keys: &[u64], rows: usize, from: Stop) -> bool
+fn may_begin(heads: &[u64], keys: &[u64], rows: usize, from: Position) -> bool
     ensures { λ r. ⌜ holdsIf r (Searches (now (heads .entry)) (now (keys .entry)) rows from) ⌝ }
 {
     if rows > 1024 {
@@ -223,7 +223,7 @@ fn may_begin(heads: &[u64], keys: &[u64], rows: usize, from: Stop) -> bool
 }
 
 // Where the search from a place on stops, in tables that hold rows; in others anywhere.
-pub fn find(heads: &[u64], keys: &[u64], rows: usize, from: Stop, w: Want) -> Stop
+pub fn find(heads: &[u64], keys: &[u64], rows: usize, from: Position, w: Search) -> Position
     ensures { λ r. ⌜ FindsIn (now (heads .entry)) (now (keys .entry)) rows from w r ⌝ }
 {
     if may_begin(heads, keys, rows, from) {
@@ -233,7 +233,7 @@ pub fn find(heads: &[u64], keys: &[u64], rows: usize, from: Stop, w: Want) -> St
 }
 
 // Whether the row at a place is the one that is looked for.
-pub fn known(heads: &[u64], keys: &[u64], rows: usize, at: usize, w: Want) -> bool
+pub fn is_at(heads: &[u64], keys: &[u64], rows: usize, at: usize, w: Search) -> bool
     ensures { λ r. ⌜ Knows (now (heads .entry)) (now (keys .entry)) rows at w r ⌝ }
 {
     if at >= rows {
@@ -248,7 +248,7 @@ pub fn known(heads: &[u64], keys: &[u64], rows: usize, at: usize, w: Want) -> bo
     if 3 * at + 2 >= keys.len() {
         return false;
     }
-    is_wanted(
+    is_sought(
         w,
         heads[at],
         keys[3 * at],

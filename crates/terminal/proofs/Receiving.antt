@@ -13,7 +13,7 @@ use Rattle.meaning.specs.Limits.{fits}
 use Rattle.meaning.specs.Ways.{Operation}
 use Rattle.meaning.specs.Valid.{ValidOperation}
 use Rattle.meaning.specs.Message.{message}
-use Rattle.meaning.specs.Judge.{notAbove, repeated, crossed, astray, downward}
+use Rattle.meaning.specs.Judge.{notAbove, repeated, ownDepsBehind, astray, downward}
 use Rattle.meaning.specs.Receive.{Terminal, readyIn, waits, Verdict, refused, kept, taken, judgeReady}
 use Rattle.meaning.specs.Receive.{judgeEarly, judge, finish, receive, settle}
 use Rattle.meaning.specs.Promises.{Says, says, saysNothing}
@@ -27,10 +27,10 @@ use Rattle.message.specs.Means.{Means}
 use Rattle.message.specs.Promises.{Answers, ReadsMessage}
 use Rattle.message.specs.declared.Operation as M
 use Rattle.message.specs.declared.MessageRead.{MessageRead}
-use Rattle.operate.specs.Judging.{isTaken, readyVerdict, verdict, Applies}
-use Rattle.operate.specs.declared.Judged.{Judged}
-use Rattle.operate.specs.declared.Judged.the-variants as J
-use Rattle.operate.specs.declared.Outcome.{Outcome}
+use Rattle.apply.specs.Judging.{isTaken, readyVerdict, verdict, Applies}
+use Rattle.apply.specs.declared.Judgement.{Judgement}
+use Rattle.apply.specs.declared.Judgement.the-variants as J
+use Rattle.apply.specs.declared.Outcome.{Outcome}
 use Rattle.waiting.specs.Waits.{idOf, TellsWaits, Puts}
 use Rattle.terminal.specs.declared.State.{State}
 use Rattle.terminal.specs.declared.Settled.{Settled}
@@ -53,7 +53,7 @@ keeps-steady T t s X K = record {
 }
 
 -- What a verdict on the document is for the terminal; e is what an early operation comes to.
-abbrev sort : Verdict → Judged → Verdict
+abbrev sort : Verdict → Judgement → Verdict
 sort e J.Taken = taken
 sort e J.Early = e
 sort e J.Counter = refused R.Counter
@@ -76,7 +76,7 @@ sorted false false false true false false true e = refl
 sorted false false false true false false false e = refl
 sorted false false false false a w f e = refl
 
-sort-taken : (e : Verdict) (v : Judged) → isTaken v ≡ true → sort e v ≡ taken
+sort-taken : (e : Verdict) (v : Judgement) → isTaken v ≡ true → sort e v ≡ taken
 sort-taken e J.Taken t = refl
 sort-taken e J.Early t = absurd (false≢true t)
 sort-taken e J.Counter t = absurd (false≢true t)
@@ -86,7 +86,7 @@ sort-taken e J.NoElement t = absurd (false≢true t)
 sort-taken e J.NotSmaller t = absurd (false≢true t)
 sort-taken e J.NoRoom t = absurd (false≢true t)
 
-sort-early : (e : Verdict) (v : Judged) → isEarly v ≡ true → sort e v ≡ e
+sort-early : (e : Verdict) (v : Judgement) → isEarly v ≡ true → sort e v ≡ e
 sort-early e J.Taken t = absurd (false≢true t)
 sort-early e J.Early t = refl
 sort-early e J.Counter t = absurd (false≢true t)
@@ -96,7 +96,7 @@ sort-early e J.NoElement t = absurd (false≢true t)
 sort-early e J.NotSmaller t = absurd (false≢true t)
 sort-early e J.NoRoom t = absurd (false≢true t)
 
-sort-refused : (e : Verdict) (v : Judged) → isTaken v ≡ false → isEarly v ≡ false → sort e v ≡ refused (refusalOf v)
+sort-refused : (e : Verdict) (v : Judgement) → isTaken v ≡ false → isEarly v ≡ false → sort e v ≡ refused (refusalOf v)
 sort-refused e J.Taken t u = absurd (true≢false t)
 sort-refused e J.Early t u = absurd (true≢false u)
 sort-refused e J.Counter t u = refl
@@ -110,7 +110,7 @@ judge-sorted : (o : Operation) (X : Terminal) → judge o X ≡ sort (judgeEarly
 unfolding judge judgeReady verdict readyVerdict
 judge-sorted o X =
     let D = X .document in
-    sorted (notAbove o) (repeated (D .seen) o) (crossed (D .seen) o) (readyIn D o) (astray D o) (downward o) (fits (apply o D)) _
+    sorted (notAbove o) (repeated (D .seen) o) (ownDepsBehind (D .seen) o) (readyIn D o) (astray D o) (downward o) (fits (apply o D)) _
 
 early-above : (o : Operation) (X : Terminal) → isEarly (verdict o (X .document)) ≡ true → notAbove o ≡ false
 unfolding verdict

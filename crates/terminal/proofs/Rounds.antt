@@ -16,8 +16,8 @@ use Rattle.theorems.specs.Members.{all-pass}
 use Rattle.theorems.specs.Settling.{left, rid, next, next-all}
 use Rattle.tables.specs.Words.{Tables}
 use Rattle.message.specs.declared.Operation as M
-use Rattle.operate.specs.Judging.{isTaken, verdict, Stores, TakesOn}
-use Rattle.operate.specs.declared.Later.{Later}
+use Rattle.apply.specs.Judging.{isTaken, verdict, Stores, TakesOn}
+use Rattle.apply.specs.declared.Later.{Later}
 use Rattle.waiting.specs.Waits.{Waits, Gone, Tells, TakesOut}
 use Rattle.waiting.proofs.Holds.{all-at}
 use Rattle.terminal.specs.declared.State.{State}

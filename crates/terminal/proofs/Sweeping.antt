@@ -13,8 +13,8 @@ use Rattle.meaning.specs.Receive.{Terminal, dead, able}
 use Rattle.theorems.specs.Invariant.{Sent}
 use Rattle.theorems.specs.Keep.{keep-nil, keep-yes, keep-no, keep-append}
 use Rattle.tables.specs.Words.{Tables}
-use Rattle.operate.specs.Judging.{isTaken, verdict}
-use Rattle.operate.specs.declared.Judged.{Judged}
+use Rattle.apply.specs.Judging.{isTaken, verdict}
+use Rattle.apply.specs.declared.Judgement.{Judgement}
 use Rattle.waiting.specs.Waits.{Waits, Gone, TakesOut}
 use Rattle.waiting.proofs.Holds.{all-at, all-but}
 use Rattle.terminal.specs.declared.State.{State}
@@ -111,7 +111,7 @@ module _ (T : Tables) (t : List ℕ) (s : State) (X : Terminal) (i : ℕ) (b : B
   above : (w : Turn) → Sent (w .one)
   above w = all-at Sent (live (X .document) (w .passed)) (w .rest) (w .one) (w .keeps .sent)
 
-  module _ (v : Judged) (L : Looks T t s i v) (S : Sweeping T t s X i b k) (l : i < s .waiting) where
+  module _ (v : Judgement) (L : Looks T t s i v) (S : Sweeping T t s X i b k) (l : i < s .waiting) where
     judged : (w : Turn) → v ≡ verdict (w .one) (X .document)
     judged w = L _ (live (X .document) (w .passed)) (w .rest) (w .one) (w .keeps) refl (w .place)
 

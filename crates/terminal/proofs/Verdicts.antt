@@ -6,15 +6,15 @@ use Rattle.meaning.specs.Places.{Document}
 use Rattle.meaning.specs.Ways.{Operation}
 use Rattle.meaning.specs.Apply.{apply}
 use Rattle.meaning.specs.Limits.{fits}
-use Rattle.meaning.specs.Judge.{notAbove, repeated, crossed, astray, downward}
+use Rattle.meaning.specs.Judge.{notAbove, repeated, ownDepsBehind, astray, downward}
 use Rattle.meaning.specs.Receive.{readyIn, dead, able}
-use Rattle.operate.specs.Judging.{isTaken, readyVerdict, verdict}
-use Rattle.operate.specs.declared.Judged.{Judged}
-use Rattle.operate.specs.declared.Judged.the-variants as J
+use Rattle.apply.specs.Judging.{isTaken, readyVerdict, verdict}
+use Rattle.apply.specs.declared.Judgement.{Judgement}
+use Rattle.apply.specs.declared.Judgement.the-variants as J
 use Rattle.terminal.specs.Verdicts.{deadly}
 
 -- the verdict by the tests 3, 4, ready, 8, 9, 10
-abbrev pub by : Bool → Bool → Bool → Bool → Bool → Bool → Judged
+abbrev pub by : Bool → Bool → Bool → Bool → Bool → Bool → Judgement
 by r c d a w f = cond r J.Repeat (cond c J.OwnDeps (cond d (cond a J.NoElement (cond w J.NotSmaller (cond f J.Taken J.NoRoom))) J.Early))
 
 drops : (r c d a w f : Bool) → deadly (by r c d a w f) ≡ (r || c || (d && (a || w)))
@@ -39,13 +39,13 @@ module _ (D : Document) (o : Operation) (above : notAbove o ≡ false) where
   pub deadly-verdict : deadly (verdict o D) ≡ dead D o
   unfolding verdict readyVerdict dead
   deadly-verdict =
-      rw above (drops (repeated (D .seen) o) (crossed (D .seen) o) (readyIn D o) (astray D o) (downward o) (fits (apply o D)))
+      rw above (drops (repeated (D .seen) o) (ownDepsBehind (D .seen) o) (readyIn D o) (astray D o) (downward o) (fits (apply o D)))
 
   pub taken-verdict : dead D o ≡ false → isTaken (verdict o D) ≡ able D o
   unfolding verdict readyVerdict dead able
   taken-verdict e =
-      rw above (takes (repeated (D .seen) o) (crossed (D .seen) o) (readyIn D o) (astray D o) (downward o) (fits (apply o D)) e)
+      rw above (takes (repeated (D .seen) o) (ownDepsBehind (D .seen) o) (readyIn D o) (astray D o) (downward o) (fits (apply o D)) e)
 
-  pub early-verdict : repeated (D .seen) o ≡ false → crossed (D .seen) o ≡ false → readyIn D o ≡ false → verdict o D ≡ J.Early
+  pub early-verdict : repeated (D .seen) o ≡ false → ownDepsBehind (D .seen) o ≡ false → readyIn D o ≡ false → verdict o D ≡ J.Early
   unfolding verdict
   early-verdict r k d = rw (above, r, k, d)

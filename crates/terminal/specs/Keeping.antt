@@ -6,7 +6,7 @@ use Rattle.meaning.specs.Members.{All}
 use Rattle.meaning.specs.Receive.{Terminal}
 use Rattle.theorems.specs.Invariant.{Sent}
 use Rattle.tables.specs.Words.{Tables}
-use Rattle.operate.specs.Judging.{Stores}
+use Rattle.apply.specs.Judging.{Stores}
 use Rattle.waiting.specs.Waits.{Waits}
 use Rattle.terminal.specs.declared.State.{State}
 

@@ -11,8 +11,8 @@ use Rattle.meaning.specs.Members.{All}
 use Rattle.meaning.specs.Receive.{Terminal, able, nobody, picked, first, settle}
 use Rattle.theorems.specs.Settling.{left, rid, next}
 use Rattle.tables.specs.Words.{Tables}
-use Rattle.operate.specs.Judging.{verdict}
-use Rattle.operate.specs.declared.Judged.{Judged}
+use Rattle.apply.specs.Judging.{verdict}
+use Rattle.apply.specs.declared.Judgement.{Judgement}
 use Rattle.terminal.specs.Keeping.{Keeps}
 use Rattle.terminal.specs.declared.State.{State}
 use Rattle.terminal.specs.declared.Swept.{Swept}
@@ -20,7 +20,7 @@ use Rattle.terminal.specs.declared.Rounded.{Rounded}
 use Rattle.terminal.specs.declared.Settled.{Settled}
 
 -- the verdict on the operation at i
-abbrev pub Looks : Tables → List ℕ → State → ℕ → Judged → Type 0
+abbrev pub Looks : Tables → List ℕ → State → ℕ → Judgement → Type 0
 Looks T t s i r =
     (D : Terminal) (A R : List Operation) (o : Operation) → Keeps T t s D → D .waiting ≡ A ++ o ∷ R → i ≡ length A
     → r ≡ verdict o (D .document)

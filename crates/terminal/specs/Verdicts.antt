@@ -3,11 +3,11 @@
 use mathlib.Core.Bool.{Bool, true, false}
 use Rattle.meaning.specs.declared.Receipt.{Receipt}
 use Rattle.meaning.specs.declared.Receipt.the-variants as R
-use Rattle.operate.specs.declared.Judged.{Judged}
-use Rattle.operate.specs.declared.Judged.the-variants as J
+use Rattle.apply.specs.declared.Judgement.{Judgement}
+use Rattle.apply.specs.declared.Judgement.the-variants as J
 
 -- 3, 4, 8, 9
-abbrev pub deadly : Judged → Bool
+abbrev pub deadly : Judgement → Bool
 deadly J.Taken = false
 deadly J.Early = false
 deadly J.Counter = false
@@ -17,7 +17,7 @@ deadly J.NoElement = true
 deadly J.NotSmaller = true
 deadly J.NoRoom = false
 
-abbrev pub isEarly : Judged → Bool
+abbrev pub isEarly : Judgement → Bool
 isEarly J.Taken = false
 isEarly J.Early = true
 isEarly J.Counter = false
@@ -28,7 +28,7 @@ isEarly J.NotSmaller = false
 isEarly J.NoRoom = false
 
 -- the answer to a refusal
-abbrev pub refusalOf : Judged → Receipt
+abbrev pub refusalOf : Judgement → Receipt
 refusalOf J.Taken = R.Layout
 refusalOf J.Early = R.Layout
 refusalOf J.Counter = R.Counter

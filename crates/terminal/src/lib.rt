@@ -3,10 +3,10 @@
 mod settling;
 mod sorts;
 
+use apply::is_taken;
 use meaning::Counters;
 use meaning::Receipt;
 use message::Operation;
-use operate::is_taken;
 use settling::settle;
 use sorts::is_early;
 use sorts::refusal;
@@ -121,7 +121,7 @@ pub fn receive(
     let op = m.op;
     let c = s.counts;
     let seen = s.seen;
-    let o = operate::apply(heads, keys, marks, values, c, seen, op);
+    let o = apply::apply(heads, keys, marks, values, c, seen, op);
     let j = o.answer;
     if is_taken(j) {
         let counts = o.counts;

@@ -4,8 +4,8 @@ use crate::Settled;
 use crate::State;
 use crate::Swept;
 use crate::sorts::is_dead;
-use operate::Judged;
-use operate::is_taken;
+use apply::Judgement;
+use apply::is_taken;
 ghost use Rattle.tables.specs.Holding.{four};
 ghost use Rattle.terminal.specs.Settling.{Looks, Sweeps, Rounds, Settles};
 
@@ -18,7 +18,7 @@ fn look(
     waiting: &[u64],
     s: State,
     i: usize,
-) -> Judged
+) -> Judgement
     ensures { λ r. ⌜ Looks (four (now (heads .entry)) (now (keys .entry)) (now (marks .entry)) (now (values .entry)))
         (now (waiting .entry)) s i r ⌝ }
 {
@@ -26,7 +26,7 @@ fn look(
     let seen = s.seen;
     let counts = s.counts;
     let op = waiting::op_at(waiting, n, i);
-    operate::judge(heads, keys, marks, values, counts, seen, op)
+    apply::judge(heads, keys, marks, values, counts, seen, op)
 }
 
 // Drops the dead, and finds the first that can be applied. Of a message that comes too early no more is read than tells it.
@@ -112,7 +112,7 @@ fn round(
     }
     let c = state.counts;
     let seen = state.seen;
-    let o = operate::take(heads, keys, marks, values, c, seen, op);
+    let o = apply::take(heads, keys, marks, values, c, seen, op);
     let counts = o.counts;
     let after = o.seen;
     let next = State {

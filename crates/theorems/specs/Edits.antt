@@ -8,7 +8,7 @@ use mathlib.Core.List.{List}
 use borrow.Author.Tests.{lt-leb, le-ltb}
 use Rattle.meaning.specs.Ids.{idOf, counterOf, entryOf, entry, ready}
 use Rattle.meaning.specs.Ways.{Way}
-use Rattle.meaning.specs.Judge.{notAbove, repeated, crossed}
+use Rattle.meaning.specs.Judge.{notAbove, repeated, ownDepsBehind}
 use Rattle.meaning.specs.Edit.{largest, spent, editOf}
 use Rattle.meaning.specs.Valid.{ValidCounters, ValidEdit, ValidOperation}
 use Rattle.theorems.specs.Counters.{own-others-ready, le-largest, largest-lt}
@@ -43,8 +43,8 @@ edit-checked s r top w h k = omega (arith, edit-counter s r top w h, le-largest 
 pub edit-above : (s : List ℕ) (r : ℕ) (top : List ℕ) (w : Way) → r ≤ 8 → notAbove (editOf s r top w) ≡ false
 edit-above s r top w h = checked-above (editOf s r top w) (edit-checked s r top w h)
 
-pub edit-own : (s : List ℕ) (r : ℕ) (top : List ℕ) (w : Way) → crossed s (editOf s r top w) ≡ false
-unfolding crossed editOf
+pub edit-own : (s : List ℕ) (r : ℕ) (top : List ℕ) (w : Way) → ownDepsBehind s (editOf s r top w) ≡ false
+unfolding ownDepsBehind editOf
 edit-own s r top w = le-ltb (entry s (entryOf (editOf s r top w .id))) _ (omega arith)
 
 -- it is ready: as the test says, and as convergence asks for it

@@ -14,7 +14,7 @@ use Rattle.meaning.specs.Ids.{counterOf, entry, covered}
 use Rattle.meaning.specs.Places.{Document}
 use Rattle.meaning.specs.Ways.{Operation}
 use Rattle.meaning.specs.Apply.{apply, applyAll}
-use Rattle.meaning.specs.Judge.{repeated, crossed, astray, downward}
+use Rattle.meaning.specs.Judge.{repeated, ownDepsBehind, astray, downward}
 use Rattle.meaning.specs.Members.{All}
 use Rattle.meaning.specs.Receive.{Terminal, readyIn, dead, Verdict, judge, finish, receive}
 use Rattle.theorems.specs.Counters.{raise-length, lt-uncovered, ready-own, ready-others, own-others-ready}
@@ -32,15 +32,15 @@ unfolding repeated
 repeated-still s t o g e =
     le-leb (counterOf (o .id)) (entry t (who o)) (omega (arith, leb-true (counterOf (o .id)) (entry s (who o)) e))
 
-crossed-still : (s t : List ℕ) (o : Operation) → entry s (who o) ≤ entry t (who o) → crossed s o ≡ true → crossed t o ≡ true
-unfolding crossed
+crossed-still : (s t : List ℕ) (o : Operation) → entry s (who o) ≤ entry t (who o) → ownDepsBehind s o ≡ true → ownDepsBehind t o ≡ true
+unfolding ownDepsBehind
 crossed-still s t o g e =
     lt-ltb (entry (o .deps) (who o)) (entry t (who o)) (omega (arith, ltb-true (entry (o .deps) (who o)) (entry s (who o)) e))
 
 -- what is ready stays ready, or is crossed
 ready-still : (D E : Document) (o : Operation) → ((k : ℕ) → entry (D .seen) k ≤ entry (E .seen) k) → readyIn D o ≡ true
-    → (crossed (E .seen) o ≡ true) ⊎ (readyIn E o ≡ true)
-unfolding crossed
+    → (ownDepsBehind (E .seen) o ≡ true) ⊎ (readyIn E o ≡ true)
+unfolding ownDepsBehind
 ready-still D E o g r = go (ltb (entry (o .deps) (who o)) (entry (E .seen) (who o))) refl
   where
     own : entry (o .deps) (who o) ≡ entry (D .seen) (who o)
@@ -70,7 +70,7 @@ dead-step D o p e q h = why-dead (apply p D) o (go (dead-why D o h))
     grown k = unfold apply in grows (D .seen) p e q k
 
     barred-still : (astray D o || downward o) ≡ true → readyIn D o ≡ true
-        → (crossed (apply p D .seen) o ≡ true) ⊎ (readyIn (apply p D) o ≡ true) → Why (apply p D) o
+        → (ownDepsBehind (apply p D .seen) o ≡ true) ⊎ (readyIn (apply p D) o ≡ true) → Why (apply p D) o
     barred-still b r (inl c) = crosses c
     barred-still b r (inr now) = barred now (rw (astray-still p o D (ready-uncovers D o p r q)) b)
 

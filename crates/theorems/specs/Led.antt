@@ -12,12 +12,12 @@ use Rattle.meaning.specs.Ways.{Assigned, plain, emptyMap, emptyList, head, afte
 use Rattle.meaning.specs.Ways.{Way, assign, delete, insert, intoMap, intoList, Operation, deletes, makes}
 use Rattle.meaning.specs.Clear.{clear}
 use Rattle.meaning.specs.Apply.{mark, dropValues, addValue, onMap, onList, give, atKey, atElement, insertAfter, passing, run, change, apply}
-use Rattle.meaning.specs.Judge.{look, Found, found, unknown, isFound, find, led, astray}
+use Rattle.meaning.specs.Judge.{look, Found, found, unknown, isFound, find, elementsFound, astray}
 use Rattle.theorems.specs.Finding.{look-atKey, look-clear, find-atElement, find-insert, onFound, find-clear}
 
 -- an element's place, if there is one, leads on
 abbrev onto : List ℕ → Way → Found → Bool
-onto d w f = elim f [ found x ↦ led d w x | unknown ↦ false ]
+onto d w f = elim f [ found x ↦ elementsFound d w x | unknown ↦ false ]
 
 -- of a list g changes, no way with deps d can tell
 record StillList (d : List ℕ) (g : Elements → Elements) : Type 0 where
@@ -43,27 +43,27 @@ add-branches i v (place m l ms vs ks es) = (refl, refl)
 module _ (d : List ℕ) where
   -- of a place f changes, no way with deps d can tell
   abbrev Still : (Place → Place) → Type 0
-  Still f = (w : Way) (c : Place) → led d w (f c) ≡ led d w c
+  Still f = (w : Way) (c : Place) → elementsFound d w (f c) ≡ elementsFound d w c
 
   still-comp : (f g : Place → Place) → Still f → Still g → Still (λ c. f (g c))
   still-comp f g p q w c = p w (g c) ∙ q w c
 
   -- what leaves both branches as they were
   still-branches : (f : Place → Place) → SameBranches f → Still f
-  unfolding led
+  unfolding elementsFound
   still-branches f h (assign a) c = refl
   still-branches f h delete c = refl
   still-branches f h (insert head a) c = refl
   still-branches f h (insert (after e) a) c = ap (λ es. covered d e && isFound (find e es)) (h c .1)
-  still-branches f h (intoMap k w) c = ap (λ ks. led d w (look k ks)) (h c .0)
+  still-branches f h (intoMap k w) c = ap (λ ks. elementsFound d w (look k ks)) (h c .0)
   still-branches f h (intoList e w) c = ap (λ es. covered d e && onto d w (find e es)) (h c .1)
 
   still-mark : (i : ℕ) → Still (mark i)
   still-mark i = still-branches (mark i) (mark-branches i)
 
-  still-map : (g : Children → Children) → ((w : Way) (k : List ℕ) (ks : Children) → led d w (look k (g ks)) ≡ led d w (look k ks))
+  still-map : (g : Children → Children) → ((w : Way) (k : List ℕ) (ks : Children) → elementsFound d w (look k (g ks)) ≡ elementsFound d w (look k ks))
       → Still (onMap g)
-  unfolding onMap led
+  unfolding onMap elementsFound
   still-map g h (assign a) c = refl
   still-map g h delete c = refl
   still-map g h (insert head a) c = refl
@@ -77,7 +77,7 @@ module _ (d : List ℕ) where
   and-then false x y h = refl
 
   still-list : (g : Elements → Elements) → StillList d g → Still (onList g)
-  unfolding onList led
+  unfolding onList elementsFound
   still-list g h (assign a) c = refl
   still-list g h delete c = refl
   still-list g h (insert head a) c = refl
@@ -90,17 +90,17 @@ module _ (d : List ℕ) where
   found-clear e unknown = refl
 
   still-clear : (e : List ℕ) → Still (clear e)
-  unfolding clear led
+  unfolding clear elementsFound
   still-clear e (assign a) c = refl
   still-clear e delete c = refl
   still-clear e (insert head a) c = refl
   still-clear e (insert (after g) a) (place m l ms vs ks es) =
       ap (λ b. covered d g && b) (ap isFound (find-clear e g es) ∙ found-clear e (find g es))
-  still-clear e (intoMap k w) (place m l ms vs ks es) = ap (led d w) (look-clear e k ks) ∙ still-clear e w (look k ks)
+  still-clear e (intoMap k w) (place m l ms vs ks es) = ap (elementsFound d w) (look-clear e k ks) ∙ still-clear e w (look k ks)
   still-clear e (intoList g w) (place m l ms vs ks es) =
       ap (λ b. covered d g && b) (ap (onto d w) (find-clear e g es) ∙ go (find g es) (λ c. still-clear e w c))
     where
-      go : (f : Found) → ((c : Place) → led d w (clear e c) ≡ led d w c) → onto d w (onFound (clear e) f) ≡ onto d w f
+      go : (f : Found) → ((c : Place) → elementsFound d w (clear e c) ≡ elementsFound d w c) → onto d w (onFound (clear e) f) ≡ onto d w f
       go (found c) h = h c
       go unknown h = refl
 
@@ -119,7 +119,7 @@ module _ (d : List ℕ) where
   unfolding passing
   still-passing i w x c = go (deletes w)
     where
-      go : (b : Bool) → led d x (cond b c (mark i c)) ≡ led d x c
+      go : (b : Bool) → elementsFound d x (cond b c (mark i c)) ≡ elementsFound d x c
       go true = refl
       go false = still-mark i x c
 
@@ -141,7 +141,7 @@ module _ (d : List ℕ) where
       }
   still-run i e (intoMap k x) u =
       still-comp (onMap (atKey (makes x) k (run i e x))) (passing i x)
-      (still-map _ (λ w j ks. look-atKey (led d w) k (run i e x) (λ c. still-run i e x u w c) j (makes x) ks)) (still-passing i x)
+      (still-map _ (λ w j ks. look-atKey (elementsFound d w) k (run i e x) (λ c. still-run i e x u w c) j (makes x) ks)) (still-passing i x)
   still-run i e (intoList k x) u =
       still-comp (onList (atElement k (run i e x))) (passing i x) (still-list _ (list (still-run i e x u))) (still-passing i x)
     where
@@ -155,5 +155,5 @@ module _ (d : List ℕ) where
 pub astray-still : (p o : Operation) (D : Document) → covered (o .deps) (p .id) ≡ false → astray (apply p D) o ≡ astray D o
 unfolding astray apply change
 astray-still p o D u =
-    ap not (look-atKey (led (o .deps) (o .way)) (p .top) (run (p .id) (p .deps) (p .way))
+    ap not (look-atKey (elementsFound (o .deps) (o .way)) (p .top) (run (p .id) (p .deps) (p .way))
     (λ c. still-run (o .deps) (p .id) (p .deps) (p .way) u (o .way) c) (o .top) (makes (p .way)) (D .root))

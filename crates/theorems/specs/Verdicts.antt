@@ -11,7 +11,7 @@ use Rattle.meaning.specs.Ids.{counterOf, entryOf, entry}
 use Rattle.meaning.specs.Ways.{Operation}
 use Rattle.meaning.specs.Apply.{apply}
 use Rattle.meaning.specs.Limits.{fits}
-use Rattle.meaning.specs.Judge.{notAbove, repeated, crossed, astray, downward}
+use Rattle.meaning.specs.Judge.{notAbove, repeated, ownDepsBehind, astray, downward}
 use Rattle.meaning.specs.Receive.{Terminal, readyIn, dead, waits, Verdict, refused, kept, taken, judgeReady, judgeEarly, judge}
 use Rattle.meaning.specs.Message.{message}
 use Rattle.meaning.specs.Edit.{EditVerdict, spent, judgeEdit}
@@ -31,7 +31,7 @@ new-lt s o e = leb-false (counterOf (o .id)) (entry s (entryOf (o .id))) e
 pub record Admitted (o : Operation) (T : Terminal) : Type 0 where
   pub above : notAbove o ≡ false
   pub new : repeated (T .document .seen) o ≡ false
-  pub own : crossed (T .document .seen) o ≡ false
+  pub own : ownDepsBehind (T .document .seen) o ≡ false
 
 -- it is ready, and not 8, 9 or 10
 pub record Takes (o : Operation) (T : Terminal) : Type 0 where
@@ -99,9 +99,9 @@ pub judged : (o : Operation) (T : Terminal) → Judged o T (judge o T)
 unfolding judge
 judged o T =
     let D = T .document in
-    go (notAbove o) refl (repeated (D .seen) o) refl (crossed (D .seen) o) refl (readyIn D o) refl
+    go (notAbove o) refl (repeated (D .seen) o) refl (ownDepsBehind (D .seen) o) refl (readyIn D o) refl
   where
-    go : (a : Bool) → notAbove o ≡ a → (b : Bool) → repeated (T .document .seen) o ≡ b → (c : Bool) → crossed (T .document .seen) o ≡ c
+    go : (a : Bool) → notAbove o ≡ a → (b : Bool) → repeated (T .document .seen) o ≡ b → (c : Bool) → ownDepsBehind (T .document .seen) o ≡ c
         → (d : Bool) → readyIn (T .document) o ≡ d
         → Judged o T (cond a (refused R.Counter) (cond b (refused R.Repeat) (cond c (refused R.OwnDeps)
         (cond d (judgeReady o (T .document)) (judgeEarly o (T .waiting))))))

@@ -10,7 +10,7 @@ use borrow.Author.Tests.{lt-ltb, le-ltb, eq-eqb, ne-eqb}
 use lib.Dec.{eqb}
 use lib.ListN.{length, drop, getD, replicate}
 use Rattle.meaning.specs.Ids.{entryOf, entry, atMost, ready}
-use Rattle.meaning.specs.Judge.{crossed}
+use Rattle.meaning.specs.Judge.{ownDepsBehind}
 use Rattle.meaning.specs.Ways.{Operation}
 use Rattle.meaning.specs.Valid.{ValidOperation}
 use Rattle.words.specs.Words.{run, overAt, opened, closed, inserted}
@@ -53,13 +53,13 @@ module _ (t : List ℕ) (n i : ℕ) where
         record { own-is = w ∙ q .1; last-is = l ∙ ap (λ k. getD s k 0) (q .0) }
 
     pub early-dead : own < last → TellsEarly t n i s false
-    unfolding TellsEarly crossed
+    unfolding TellsEarly ownDepsBehind
     early-dead h A R o W e =
         let q = entries A R o W e in
         rw (lt-ltb (entry (o .deps) (entryOf (o .id))) (entry s (entryOf (o .id))) (omega (arith, q .own-is, q .last-is)))
 
     pub early-ahead : last < own → TellsEarly t n i s true
-    unfolding TellsEarly crossed ready
+    unfolding TellsEarly ownDepsBehind ready
     early-ahead h A R o W e =
         let q = entries A R o W e in
         rw (
@@ -69,7 +69,7 @@ module _ (t : List ℕ) (n i : ℕ) where
 
     pub early-even : last ≤ own → own ≤ last → (deps : List ℕ) → deps ≡ counters (run (40 * i + 1) 8 t) → (r : Bool) → r ≡ atMost deps s
         → TellsEarly t n i s (not r)
-    unfolding TellsEarly crossed ready
+    unfolding TellsEarly ownDepsBehind ready
     early-even h k deps d r y A R o W e =
         let q = entries A R o W e in
         rw (

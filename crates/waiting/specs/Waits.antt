@@ -8,7 +8,7 @@ use mathlib.Core.List.{List, _∷_, _++_}
 use mathlib.Core.Logic.{_⊎_}
 use lib.ListN.{length}
 use Rattle.meaning.specs.Ids.{ready}
-use Rattle.meaning.specs.Judge.{crossed}
+use Rattle.meaning.specs.Judge.{ownDepsBehind}
 use Rattle.meaning.specs.Members.{All, Ascending}
 use Rattle.meaning.specs.Receive.{waits}
 use Rattle.meaning.specs.Sets.{put}
@@ -39,7 +39,7 @@ pub record Waits (t : List ℕ) (n : ℕ) (os : List Operation) : Type 0 where
 unfoldable pub TellsEarly : List ℕ → ℕ → ℕ → List ℕ → Bool → Type 0
 TellsEarly t n i s r =
     (A R : List Operation) (o : Operation) → Waits t n (A ++ o ∷ R) → i ≡ length A
-    → r ≡ (not (crossed s o) && not (ready s (o .id) (o .deps)))
+    → r ≡ (not (ownDepsBehind s o) && not (ready s (o .id) (o .deps)))
 
 -- the operation at i
 unfoldable pub Tells : List ℕ → ℕ → ℕ → M.Operation → Type 0

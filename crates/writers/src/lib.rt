@@ -10,7 +10,7 @@ ghost use Prim.Native.Nat.{_+_, _*_, _≤_, _<_};
 ghost use lib.ListN.{length};
 ghost use Rattle.meaning.specs.Text.{decimal, hexDigit, hex, idText, countersText, plainText};
 ghost use Rattle.decimal.specs.Take.{Wrote};
-ghost use Rattle.decimal.specs.Powers.{powers};
+ghost use Rattle.decimal.specs.Powers.{powersOfTen};
 ghost use Rattle.writers.specs.Wrote.{WroteAt};
 ghost use Rattle.writers.specs.Sized.{Sized};
 ghost use Rattle.writers.specs.Words.{byteOf, bytesOf};
@@ -82,21 +82,21 @@ pub fn put_hex_key(buf: &mut [u8], hi: u64, lo: u64, len: u64) -> usize
 }
 
 // Writes an id, c.r.
-pub fn put_id(buf: &mut [u8], id: u64, t: &[u64; 20]) -> usize
-    requires { ⌜ (now t ≡ powers) × (length (idText id) ≤ length (now buf)) ⌝ }
+pub fn put_id(buf: &mut [u8], id: u64, powers: &[u64; 20]) -> usize
+    requires { ⌜ (now powers ≡ powersOfTen) × (length (idText id) ≤ length (now buf)) ⌝ }
     ensures { λ r. ⌜ Wrote (idText id) (now (buf .entry)) (now (buf .exit)) r ⌝ }
 {
-    let a = put_decimal(buf, id / 8, t);
+    let a = put_decimal(buf, id / 8, powers);
     let b = then_text(buf, a, b".");
-    then_decimal(buf, b, id % 8 + 1, t)
+    then_decimal(buf, b, id % 8 + 1, powers)
 }
 
 // How many bytes an id takes.
-pub fn id_size(id: u64, t: &[u64; 20]) -> usize
-    requires { ⌜ now t ≡ powers ⌝ }
+pub fn id_size(id: u64, powers: &[u64; 20]) -> usize
+    requires { ⌜ now powers ≡ powersOfTen ⌝ }
     ensures { λ r. ⌜ Sized (idText id) 41 r ⌝ }
 {
-    decimal_size(id / 8, t) + 1 + decimal_size(id % 8 + 1, t)
+    decimal_size(id / 8, powers) + 1 + decimal_size(id % 8 + 1, powers)
 }
 
 fn wide(x: u32) -> u64
@@ -106,39 +106,39 @@ fn wide(x: u32) -> u64
 }
 
 // Writes eight counters with commas between them.
-pub fn put_counters(buf: &mut [u8], counters: Counters, t: &[u64; 20]) -> usize
-    requires { ⌜ (now t ≡ powers) × (length (countersText (counters .at)) ≤ length (now buf)) ⌝ }
+pub fn put_counters(buf: &mut [u8], counters: Counters, powers: &[u64; 20]) -> usize
+    requires { ⌜ (now powers ≡ powersOfTen) × (length (countersText (counters .at)) ≤ length (now buf)) ⌝ }
     ensures { λ r. ⌜ Wrote (countersText (counters .at)) (now (buf .entry)) (now (buf .exit)) r ⌝ }
 {
     let c = counters.at;
-    let mut n = put_decimal(buf, wide(c[0]), t);
+    let mut n = put_decimal(buf, wide(c[0]), powers);
     let mut i: usize = 1;
     while i < 8 {
         n = then_text(buf, n, b",");
-        n = then_decimal(buf, n, wide(c[i]), t);
+        n = then_decimal(buf, n, wide(c[i]), powers);
         i += 1;
     }
     n
 }
 
 // How many bytes they take.
-pub fn counters_size(counters: Counters, t: &[u64; 20]) -> usize
-    requires { ⌜ now t ≡ powers ⌝ }
+pub fn counters_size(counters: Counters, powers: &[u64; 20]) -> usize
+    requires { ⌜ now powers ≡ powersOfTen ⌝ }
     ensures { λ r. ⌜ Sized (countersText (counters .at)) 167 r ⌝ }
 {
     let c = counters.at;
-    let mut n = decimal_size(wide(c[0]), t);
+    let mut n = decimal_size(wide(c[0]), powers);
     let mut i: usize = 1;
     while i < 8 {
-        n += 1 + decimal_size(wide(c[i]), t);
+        n += 1 + decimal_size(wide(c[i]), powers);
         i += 1;
     }
     n
 }
 
 // Writes a plain value.
-pub fn put_plain(buf: &mut [u8], kind: Kind, words: [u64; 4], t: &[u64; 20]) -> usize
-    requires { ⌜ (now t ≡ powers) × InBounds kind × (length (plainText (plainOf kind words)) ≤ length (now buf)) ⌝ }
+pub fn put_plain(buf: &mut [u8], kind: Kind, words: [u64; 4], powers: &[u64; 20]) -> usize
+    requires { ⌜ (now powers ≡ powersOfTen) × InBounds kind × (length (plainText (plainOf kind words)) ≤ length (now buf)) ⌝ }
     ensures { λ r. ⌜ Wrote (plainText (plainOf kind words)) (now (buf .entry)) (now (buf .exit)) r ⌝ }
 {
     match kind {
@@ -147,11 +147,11 @@ pub fn put_plain(buf: &mut [u8], kind: Kind, words: [u64; 4], t: &[u64; 20]) -> 
         Kind::False => put_text(buf, b"f"),
         Kind::NonNeg(n) => {
             let a = put_text(buf, b"i");
-            then_decimal(buf, a, n, t)
+            then_decimal(buf, a, n, powers)
         }
         Kind::Neg(n) => {
             let a = put_text(buf, b"i-");
-            then_decimal(buf, a, n + 1, t)
+            then_decimal(buf, a, n + 1, powers)
         }
         Kind::String(len) => {
             let a = put_text(buf, b"s");
@@ -161,16 +161,16 @@ pub fn put_plain(buf: &mut [u8], kind: Kind, words: [u64; 4], t: &[u64; 20]) -> 
 }
 
 // How many bytes it takes.
-pub fn plain_size(kind: Kind, words: [u64; 4], t: &[u64; 20]) -> usize
-    requires { ⌜ (now t ≡ powers) × InBounds kind ⌝ }
+pub fn plain_size(kind: Kind, words: [u64; 4], powers: &[u64; 20]) -> usize
+    requires { ⌜ (now powers ≡ powersOfTen) × InBounds kind ⌝ }
     ensures { λ r. ⌜ Sized (plainText (plainOf kind words)) 65 r ⌝ }
 {
     match kind {
         Kind::Null => 1,
         Kind::True => 1,
         Kind::False => 1,
-        Kind::NonNeg(n) => 1 + decimal_size(n, t),
-        Kind::Neg(n) => 2 + decimal_size(n + 1, t),
+        Kind::NonNeg(n) => 1 + decimal_size(n, powers),
+        Kind::Neg(n) => 2 + decimal_size(n + 1, powers),
         Kind::String(len) => 1 + 2 * (len as usize),
     }
 }
@@ -184,11 +184,11 @@ pub fn then_text(buf: &mut [u8], at: usize, text: &[u8]) -> usize
     at + put_text(&mut buf[at..], text)
 }
 
-pub fn then_decimal(buf: &mut [u8], at: usize, v: u64, t: &[u64; 20]) -> usize
-    requires { ⌜ (now t ≡ powers) × (at + length (decimal v) ≤ length (now buf)) ⌝ }
+pub fn then_decimal(buf: &mut [u8], at: usize, v: u64, powers: &[u64; 20]) -> usize
+    requires { ⌜ (now powers ≡ powersOfTen) × (at + length (decimal v) ≤ length (now buf)) ⌝ }
     ensures { λ r. ⌜ WroteAt (decimal v) at (now (buf .entry)) (now (buf .exit)) r ⌝ }
 {
-    at + put_decimal(&mut buf[at..], v, t)
+    at + put_decimal(&mut buf[at..], v, powers)
 }
 
 pub fn then_hex(buf: &mut [u8], at: usize, words: &[u64], n: usize) -> usize
@@ -198,23 +198,29 @@ pub fn then_hex(buf: &mut [u8], at: usize, words: &[u64], n: usize) -> usize
     at + put_hex(&mut buf[at..], words, n)
 }
 
-pub fn then_id(buf: &mut [u8], at: usize, id: u64, t: &[u64; 20]) -> usize
-    requires { ⌜ (now t ≡ powers) × (at + length (idText id) ≤ length (now buf)) ⌝ }
+pub fn then_id(buf: &mut [u8], at: usize, id: u64, powers: &[u64; 20]) -> usize
+    requires { ⌜ (now powers ≡ powersOfTen) × (at + length (idText id) ≤ length (now buf)) ⌝ }
     ensures { λ r. ⌜ WroteAt (idText id) at (now (buf .entry)) (now (buf .exit)) r ⌝ }
 {
-    at + put_id(&mut buf[at..], id, t)
+    at + put_id(&mut buf[at..], id, powers)
 }
 
-pub fn then_counters(buf: &mut [u8], at: usize, counters: Counters, t: &[u64; 20]) -> usize
-    requires { ⌜ (now t ≡ powers) × (at + length (countersText (counters .at)) ≤ length (now buf)) ⌝ }
+pub fn then_counters(buf: &mut [u8], at: usize, counters: Counters, powers: &[u64; 20]) -> usize
+    requires { ⌜ (now powers ≡ powersOfTen) × (at + length (countersText (counters .at)) ≤ length (now buf)) ⌝ }
     ensures { λ r. ⌜ WroteAt (countersText (counters .at)) at (now (buf .entry)) (now (buf .exit)) r ⌝ }
 {
-    at + put_counters(&mut buf[at..], counters, t)
+    at + put_counters(&mut buf[at..], counters, powers)
 }
 
-pub fn then_plain(buf: &mut [u8], at: usize, kind: Kind, words: [u64; 4], t: &[u64; 20]) -> usize
-    requires { ⌜ (now t ≡ powers) × InBounds kind × (at + length (plainText (plainOf kind words)) ≤ length (now buf)) ⌝ }
+pub fn then_plain(
+    buf: &mut [u8],
+    at: usize,
+    kind: Kind,
+    words: [u64; 4],
+    powers: &[u64; 20],
+) -> usize
+    requires { ⌜ (now powers ≡ powersOfTen) × InBounds kind × (at + length (plainText (plainOf kind words)) ≤ length (now buf)) ⌝ }
     ensures { λ r. ⌜ WroteAt (plainText (plainOf kind words)) at (now (buf .entry)) (now (buf .exit)) r ⌝ }
 {
-    at + put_plain(&mut buf[at..], kind, words, t)
+    at + put_plain(&mut buf[at..], kind, words, powers)
 }

@@ -4,7 +4,7 @@ use mathlib.Core.Path.{_≡_, refl, sym}
 use mathlib.Core.Bool.{false≢true}
 use lib.ListN.{length}
 use lib.Seq.{length-take-le}
-use Rattle.stream.specs.Pieces.{Holds}
+use Rattle.stream.specs.Pieces.{CutInside}
 use Rattle.replay.proofs.play.Statement.{statement}
 use Rattle.replay.proofs.play.Tie as tie
 
@@ -12,7 +12,7 @@ abbrev Inv-loop : tie.InvT-loop
 Inv-loop heads₀ keys₀ marks₀ values₀ waiting₀ buf₀ state₀ cut₀ ended₀ turns₀ heads keys marks values waiting buf state cut ended turns =
     ((length heads ≡ length heads₀) × (length keys ≡ length keys₀) × (length marks ≡ length marks₀) × (length values ≡ length values₀)
     × (length waiting ≡ length waiting₀) × (length buf ≡ length buf₀))
-    × Holds buf cut
+    × CutInside buf cut
 
 abbrev μ-loop : tie.MeasureT-loop
 μ-loop heads₀ keys₀ marks₀ values₀ waiting₀ buf₀ state₀ cut₀ ended₀ turns₀ heads keys marks values waiting buf state cut ended turns =

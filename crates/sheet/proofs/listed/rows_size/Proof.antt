@@ -48,7 +48,7 @@ loop-again c =
     let at-loop-test = c .before .before in
     let at-loop = at-loop-test .before in
     let at-start = at-loop .before .before .before .before .before in
-    rw (c .past .ensures (few (at-start .args .rows) (at-loop .loop .s) (at-loop .loop .left) (at-loop-test .loop-test .taken)
+    rw (c .next-row .ensures (few (at-start .args .rows) (at-loop .loop .s) (at-loop .loop .left) (at-loop-test .loop-test .taken)
     (at-loop .loop .inv .1) (at-start .pre .1))) (
       sum-more (rowText
           (four (at-start .args .heads .now) (at-start .args .keys .now) (at-start .args .marks .now) (at-start .args .values .now)))

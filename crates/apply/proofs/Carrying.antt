@@ -1,0 +1,246 @@
+-- An operation carried out on memory that holds a document.
+-- Assumes nothing.
+use Prim.Native.Nat.{ℕ, suc, _+_, _*_, _≤_, _<_}
+use native.Mathlib.Omega.{arith}
+use mathlib.Core.Path.{_≡_, refl, sym, ap, ap₂, _∙_, subst}
+use mathlib.Core.Bool.{Bool, true, false, cond, true≢false}
+use mathlib.Core.List.{List, _++_}
+use lib.Dec.{leb}
+use lib.ListN.{length, take}
+use borrow.Author.Tests.{leb-false, le-leb}
+use Rattle.meaning.specs.Ids.{counterOf, entryOf, entry, ready, raise}
+use Rattle.meaning.specs.Places.{Document}
+use Rattle.meaning.specs.Apply.{apply}
+use Rattle.meaning.specs.Limits.{fits}
+use Rattle.meaning.specs.Judge.{notAbove, repeated, ownDepsBehind, astray, downward}
+use Rattle.meaning.specs.Receive.{readyIn}
+use Rattle.meaning.specs.Valid.{ValidOperation}
+use Rattle.meaning.specs.Ways.{steps}
+use Rattle.meaning.specs.Ways as M
+use Rattle.meaning.specs.Sheet.{Row, rowsOf}
+use Rattle.meaning.specs.declared.Counters.{Counters}
+use Rattle.theorems.specs.Accepting.{fits-limits}
+use Rattle.theorems.specs.Soundness.{sound-apply}
+use Rattle.rows.specs.Balanced.{passed-rest, fresh-parts}
+use Rattle.rows.specs.Blocks.{passed, rest, keyBelow, over, applyRows}
+use Rattle.rows.specs.Follows.{apply-rows}
+use Rattle.rows.specs.Within.{underRows, apply-under}
+use Rattle.rows.specs.Counting.{Fresh}
+use Rattle.rows.specs.Room.{sound-fresh}
+use Rattle.counters.specs.Counted.{raised, Says}
+use Rattle.message.specs.Means.{wayWords, deedWords, Means}
+use Rattle.message.specs.declared.Operation.{Operation}
+use Rattle.tables.specs.Words.{Tables}
+use Rattle.tables.specs.Holding.{Holds}
+use Rattle.tables.specs.declared.Counts.{Counts}
+use Rattle.tables.specs.declared.Position.{Position}
+use Rattle.words.specs.Gap.{Gap}
+use Rattle.words.proofs.Gap.{gap-closed}
+use Rattle.descend.specs.Doing.{marksBy, withMarks, Descends}
+use Rattle.descend.proofs.Gaps.{marks-most}
+use Rattle.descend.specs.declared.Act.{Act}
+use Rattle.apply.specs.Judging.{isTaken, readyVerdict, byCounters, verdict, Stores, Newer, Parts, Tops}
+use Rattle.apply.specs.Judging.{JudgesCounters, JudgesReady, Judges, CarriesWay, CarriesOut, TakesOn, Applies}
+use Rattle.apply.specs.declared.Judgement.{Judgement}
+use Rattle.apply.specs.declared.Judgement.the-variants as J
+use Rattle.apply.specs.declared.Outcome.{Outcome}
+use Rattle.apply.specs.declared.Later.{Later}
+use Rattle.apply.proofs.Tops.{rows-top}
+use Rattle.apply.proofs.Verdicts.{whole, steps-whole, deed-whole, way-part, cut-short, parts-of}
+
+pub newer : (D : Document) (o : M.Operation) → repeated (D .seen) o ≡ false → Newer D o
+unfolding repeated
+newer D o e = leb-false (counterOf (o .id)) (entry (D .seen) (entryOf (o .id))) e
+
+pub here-stores : (T : Tables) (c : Counts) (s : List ℕ) (D : Document) → Stores T c s D → Stores T c (D .seen) D
+here-stores T c s D S = record { rows = S .rows; counters = refl; sound = S .sound; limits = S .limits }
+
+-- what is done, of an operation
+abbrev pub actOf : Operation → Act
+actOf op = record { id = op .id; deps = op .deps; deed = op .deed; words = op .words }
+
+module _ (T : Tables) (c : Counts) (s : Position) (a : Act) (ks : List ℕ) (n : ℕ) where
+  pub carry-long : 8 < n → CarriesWay T c s a ks n c T
+  carry-long l D o S q w val y t = absurd (omega (arith, l, steps-whole _ _ _ ks n o q val .0, steps-whole _ _ _ ks n o q val .1))
+
+  pub carry-cut : length ks < 3 * n → CarriesWay T c s a ks n c T
+  carry-cut l D o S q w val y t = absurd (cut-short _ _ _ ks n o q val l)
+
+module _ (T U : Tables) (c e : Counts) (s : Position) (a : Act) (ks : List ℕ) (n : ℕ) where
+  value-whole : (o : M.Operation) → a .words ≡ deedWords (o .way) → a .words ≡ deedWords (whole o)
+  unfolding deedWords
+  value-whole o q = q
+
+  same-rows : (o : M.Operation) (rs : List Row) → Parts (a .id) (a .deps .at) (a .deed) ks n o
+      → underRows (a .id) (a .deps .at) 1 (whole o) rs ≡ applyRows o rs
+  same-rows o rs q = ap₂ (λ i d. underRows i d 1 (whole o) rs) (q .id) (q .deps) ∙ sym (apply-under o rs)
+
+  -- below the root no mark is left to be put in: the gap is closed
+  pub carry-way : (way : List ℕ) (p : ℕ) → way ≡ take (3 * n) ks → Descends a 1 way s c T e p U → CarriesWay T c s a ks n e U
+  unfolding steps
+  carry-way way p part X D o S q w val y t =
+      let l = fits-limits D (S .limits) in
+      let r = val .edit .reach in
+      let over-it = over 1 (keyBelow (o .top)) in
+      let H = subst (Holds T c) (sym (passed-rest over-it (rowsOf D))) (S .rows) in
+      let f = subst (λ i. Fresh i (rowsOf D)) (sym (q .id)) (sound-fresh D (o .id) (S .sound) y) in
+      let d = X (passed over-it (rowsOf D)) (rest over-it (rowsOf D)) (whole o) H t (part ∙ way-part _ _ _ ks n o q val)
+      (val .edit .first, val .edit .rest) (deed-whole _ _ _ ks n o q val) (value-whole o w) (omega (arith, r))
+      (fresh-parts (a .id) over-it (rowsOf D) f .1) (omega arith) (record {
+        rows-spare = omega (arith, r, l .places, S .rows .rows-are);
+        marks-spare = omega (arith, r, l .marks, S .rows .marks-are);
+        values-spare = omega (arith, l .values, S .rows .values-are);
+      }) in
+      let none : marksBy (a .deed) 0 ≡ 0 = omega (arith, marks-most (a .deed) 0) in
+      let shut : d .table ≡ U .marks =
+      sym (gap-closed p (U .marks) (d .table) (subst (λ g. Gap g p (U .marks) (d .table)) none (d .gap))) in
+      let rows = passed over-it (rowsOf D) ++ underRows (a .id) (a .deps .at) 1 (whole o) (rest over-it (rowsOf D)) in
+      subst (Holds U e)
+      (rows-top 1 (o .top) (o .way) (rowsOf D) (a .id) (a .deps .at) ∙ (same-rows o (rowsOf D) q ∙ apply-rows o D))
+      (subst (λ t. Holds (withMarks U t) e rows) shut (d .is .holds))
+
+pub carry-out : (T U : Tables) (c e : Counts) (s : Position) (op : Operation)
+    → CarriesWay T c s (actOf op) (op .way .keys) (op .way .n) e U → CarriesOut T c s op e U
+carry-out T U c e s op C D o S q val y t = C D o S (parts-of op o q) (q .edit .words) val y t
+
+-- 2, 3, 4 and whether it is ready, test by test.
+
+module _ (seen : Counters) (op : Operation) (b₂ : Bool) (two : Says notAbove (op .id) (op .deps .at) b₂) where
+  above : (o : M.Operation) (y : Bool) → Means op o → b₂ ≡ y → notAbove o ≡ y
+  above o y e q = sym (two o (sym (e .id)) (sym (e .deps))) ∙ q
+
+  pub forestalls-two : b₂ ≡ true → JudgesCounters seen op J.Counter
+  unfolding byCounters
+  forestalls-two t D o s e = rw (above o true e t)
+
+  module _ (n₂ : b₂ ≡ false) (b₃ : Bool) (three : (o : M.Operation) → o .id ≡ op .id → b₃ ≡ repeated (seen .at) o) where
+    again : (D : Document) (o : M.Operation) (y : Bool) → seen .at ≡ D .seen → Means op o → b₃ ≡ y → repeated (D .seen) o ≡ y
+    again D o y s e q = ap (λ s. repeated s o) (sym s) ∙ (sym (three o (sym (e .id))) ∙ q)
+
+    pub forestalls-three : b₃ ≡ true → JudgesCounters seen op J.Repeat
+    unfolding byCounters
+    forestalls-three t D o s e = rw (above o false e n₂, again D o true s e t)
+
+    module _ (n₃ : b₃ ≡ false) (b₄ : Bool) (four′ : Says (ownDepsBehind (seen .at)) (op .id) (op .deps .at) b₄) where
+      across : (D : Document) (o : M.Operation) (y : Bool) → seen .at ≡ D .seen → Means op o → b₄ ≡ y → ownDepsBehind (D .seen) o ≡ y
+      across D o y s e q = ap (λ s. ownDepsBehind s o) (sym s) ∙ (sym (four′ o (sym (e .id)) (sym (e .deps))) ∙ q)
+
+      pub forestalls-four : b₄ ≡ true → JudgesCounters seen op J.OwnDeps
+      unfolding byCounters
+      forestalls-four t D o s e = rw (above o false e n₂, again D o false s e n₃, across D o true s e t)
+
+      module _ (n₄ : b₄ ≡ false) (b₅ : Bool) (five : b₅ ≡ ready (seen .at) (op .id) (op .deps .at)) where
+        in-time : (D : Document) (o : M.Operation) (y : Bool) → seen .at ≡ D .seen → Means op o → b₅ ≡ y → readyIn D o ≡ y
+        in-time D o y s e q = rw (← s, ← e .id, ← e .deps) (sym five ∙ q)
+
+        pub forestalls-none : b₅ ≡ true → JudgesCounters seen op J.Taken
+        unfolding byCounters
+        forestalls-none t D o s e =
+            rw (above o false e n₂, again D o false s e n₃, across D o false s e n₄, in-time D o true s e t)
+
+        pub forestalls-early : b₅ ≡ false → JudgesCounters seen op J.Early
+        unfolding byCounters
+        forestalls-early t D o s e =
+            rw (above o false e n₂, again D o false s e n₃, across D o false s e n₄, in-time D o false s e t)
+
+-- The whole verdict.
+
+stopped : (a b c d : Bool) (x : Judgement) → isTaken (cond a J.Counter (cond b J.Repeat (cond c J.OwnDeps (cond d J.Taken J.Early)))) ≡ false
+    → cond a J.Counter (cond b J.Repeat (cond c J.OwnDeps (cond d x J.Early)))
+    ≡ cond a J.Counter (cond b J.Repeat (cond c J.OwnDeps (cond d J.Taken J.Early)))
+stopped true b c d x t = refl
+stopped false true c d x t = refl
+stopped false false true d x t = refl
+stopped false false false true x t = absurd (true≢false t)
+stopped false false false false x t = refl
+
+goes : (a b c d : Bool) (x : Judgement) → isTaken (cond a J.Counter (cond b J.Repeat (cond c J.OwnDeps (cond d J.Taken J.Early)))) ≡ true
+    → (b ≡ false) × (cond a J.Counter (cond b J.Repeat (cond c J.OwnDeps (cond d x J.Early))) ≡ x)
+goes true b c d x t = absurd (true≢false (sym t))
+goes false true c d x t = absurd (true≢false (sym t))
+goes false false true d x t = absurd (true≢false (sym t))
+goes false false false true x t = (refl, refl)
+goes false false false false x t = absurd (true≢false (sym t))
+
+module _ (T : Tables) (c : Counts) (seen : Counters) (op : Operation) (a : Judgement) (F : JudgesCounters seen op a) where
+  pub judges-stopped : isTaken a ≡ false → Judges T c seen op a
+  unfolding verdict byCounters
+  judges-stopped t D o S e val =
+      let q = F D o (S .counters) e in
+      q ∙ sym (stopped (notAbove o) (repeated (D .seen) o) (ownDepsBehind (D .seen) o) (readyIn D o) (readyVerdict o D) (ap isTaken (sym q) ∙ t))
+
+  pub judges-ready : (s : Position) (r : Judgement) → isTaken a ≡ true → Tops T c (op .way .keys) s → JudgesReady T c s op r → Judges T c seen op r
+  unfolding verdict byCounters
+  judges-ready s r t P G D o S e val =
+      let S′ = here-stores T c (seen .at) D S in
+      let g = goes (notAbove o) (repeated (D .seen) o) (ownDepsBehind (D .seen) o) (readyIn D o) (readyVerdict o D)
+      (ap isTaken (sym (F D o (S .counters) e)) ∙ t) in
+      G D o S′ e val (newer D o (g .0)) (P D o S′ (e .edit .keys) val) ∙ sym (g .1)
+
+-- An operation that is taken.
+
+taken-cond : (a : Bool) (x y : Judgement) → isTaken x ≡ false → isTaken (cond a x y) ≡ true → (a ≡ false) × (isTaken y ≡ true)
+taken-cond true x y f t = absurd (true≢false (sym t ∙ f))
+taken-cond false x y f t = (refl, t)
+
+record Taken (o : M.Operation) (D : Document) : Type 0 where
+  new : repeated (D .seen) o ≡ false
+  room : fits (apply o D) ≡ true
+
+ready-taken : (o : M.Operation) (D : Document) → isTaken (readyVerdict o D) ≡ true → fits (apply o D) ≡ true
+unfolding readyVerdict
+ready-taken o D t =
+    let a = taken-cond (astray D o) J.NoElement _ refl t in
+    let b = taken-cond (downward o) J.NotSmaller _ refl (a .1) in
+    go (fits (apply o D)) (b .1)
+  where
+    go : (y : Bool) → isTaken (cond y J.Taken J.NoRoom) ≡ true → y ≡ true
+    go true t = refl
+    go false t = absurd (true≢false (sym t))
+
+verdict-taken : (o : M.Operation) (D : Document) → isTaken (verdict o D) ≡ true → Taken o D
+unfolding verdict
+verdict-taken o D t =
+    let a = taken-cond (notAbove o) J.Counter _ refl t in
+    let b = taken-cond (repeated (D .seen) o) J.Repeat _ refl (a .1) in
+    let c = taken-cond (ownDepsBehind (D .seen) o) J.OwnDeps _ refl (b .1) in
+    record { new = b .0; room = ready-taken o D (go (readyIn D o) (c .1)) }
+  where
+    go : (y : Bool) → isTaken (cond y (readyVerdict o D) J.Early) ≡ true → isTaken (readyVerdict o D) ≡ true
+    go true t = t
+    go false t = absurd (true≢false (sym t))
+
+raised-seen : (s : List ℕ) (o : M.Operation) → ValidOperation o → raised s (o .id) ≡ raise s (o .id)
+unfolding raised
+raised-seen s o val = rw (le-leb (counterOf (o .id)) 4294967295 (val .id .high))
+
+pub takes-on : (T : Tables) (c : Counts) (seen : Counters) (op : Operation) (U : Tables) (e : Counts) (after : Counters)
+    → (s : Position) → Tops T c (op .way .keys) s → CarriesOut T c s op e U → after .at ≡ raised (seen .at) (op .id)
+    → TakesOn T c seen op (record { counts = e; seen = after }) U
+unfolding apply
+takes-on T c seen op U e after s P C r D o S m val y =
+    let k = verdict-taken o D y in
+    let n = newer D o (k .new) in
+    let S′ = here-stores T c (seen .at) D S in
+    record {
+      rows = C D o S′ m val n (P D o S′ (m .edit .keys) val);
+      counters = r ∙ (ap₂ raised (S .counters) (m .id) ∙ raised-seen (D .seen) o val);
+      sound = sound-apply o D val n (S .sound);
+      limits = k .room;
+    }
+
+module _ (T : Tables) (c : Counts) (seen : Counters) (op : Operation) (a : Judgement) (G : Judges T c seen op a) where
+  pub applies-taken : (U : Tables) (l : Later) → isTaken a ≡ true → TakesOn T c seen op l U
+      → Applies T c seen op (record { answer = a; counts = l .counts; seen = l .seen }) U
+  applies-taken U l t K = record {
+    answers = G;
+    takes = λ D o S m val y. K D o S m val (ap isTaken (sym (G D o S m val)) ∙ t);
+    refuses = λ y. absurd (true≢false (sym t ∙ y));
+  }
+
+  pub applies-refused : isTaken a ≡ false → Applies T c seen op (record { answer = a; counts = c; seen = seen }) T
+  applies-refused t = record {
+    answers = G;
+    takes = λ D o S m val y. absurd (true≢false (sym y ∙ t));
+    refuses = λ y. (refl, refl, refl);
+  }

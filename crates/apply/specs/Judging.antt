@@ -1,0 +1,161 @@
+-- What judging and applying promise of memory that holds a document. An operation is judged on the document as it stands: 2, 3, 4; if it
+-- isn't ready it comes too early; else 8, 9, 10; else it is taken. On a refusal not one word has changed.
+-- Assumes nothing: these are definitions.
+use Prim.Native.Nat.{ℕ, suc, _+_, _≤_, _<_}
+use mathlib.Core.Path.{_≡_}
+use mathlib.Core.Bool.{Bool, true, false, cond, not, _&&_}
+use mathlib.Core.List.{List, _++_}
+use lib.Dec.{leb, ltb, eqb}
+use Rattle.meaning.specs.Ids.{counterOf, entryOf, entry}
+use Rattle.meaning.specs.Places.{Document}
+use Rattle.meaning.specs.Apply.{apply}
+use Rattle.meaning.specs.Limits.{fits}
+use Rattle.meaning.specs.Judge.{notAbove, repeated, ownDepsBehind, astray, downward}
+use Rattle.meaning.specs.Receive.{readyIn}
+use Rattle.meaning.specs.Sound.{Sound}
+use Rattle.meaning.specs.Valid.{ValidOperation}
+use Rattle.meaning.specs.Ways.{steps}
+use Rattle.meaning.specs.Ways as M
+use Rattle.meaning.specs.Sheet.{rowsOf}
+use Rattle.meaning.specs.declared.Counters.{Counters}
+use Rattle.rows.specs.Blocks.{passed, keyBelow, over}
+use Rattle.readers.specs.Words.{keyWords}
+use Rattle.message.specs.Means.{wayWords, deedOf, deedWords, pad, Means}
+use Rattle.message.specs.declared.Deed.{Deed}
+use Rattle.message.specs.declared.Operation.{Operation}
+use Rattle.tables.specs.Words.{Tables}
+use Rattle.tables.specs.Holding.{Holds, four}
+use Rattle.tables.specs.Standing.{behind}
+use Rattle.tables.specs.declared.Counts.{Counts}
+use Rattle.tables.specs.declared.Position.{Position}
+use Rattle.forecast.specs.declared.Weight.{Weight}
+use Rattle.descend.specs.Doing.{isInsert}
+use Rattle.descend.specs.declared.Act.{Act}
+use Rattle.apply.specs.declared.Judgement.{Judgement}
+use Rattle.apply.specs.declared.Judgement.the-variants as J
+use Rattle.apply.specs.declared.Outcome.{Outcome}
+use Rattle.apply.specs.declared.Later.{Later}
+
+-- the numbers of memory that holds a document, and of an operation on it
+pub record Small (c : Counts) (w : Weight) : Type 0 where
+  pub rows : c .rows ≤ 264
+  pub marks : c .marks ≤ 1032
+  pub values : c .values ≤ 257
+  pub more-places : w .places ≤ 24
+  pub more-marks : w .marks ≤ 24
+  pub more-values : w .values ≤ 1
+  pub less-marks : w .«gone_marks» ≤ 1056
+  pub less-values : w .«gone_values» ≤ 258
+
+-- what was there and comes is at most the limit and what goes
+unfoldable pub hasRoom : Counts → Weight → Bool
+hasRoom c w =
+    leb (c .rows + w .places) 256 && leb (c .marks + w .marks) (1024 + w .«gone_marks»)
+    && leb (c .values + w .values) (256 + w .«gone_values»)
+
+-- the last key is an element's, whose id isn't smaller
+unfoldable pub goesDown : Deed → ℕ → ℕ → ℕ → Bool
+goesDown deed i hi len = cond (eqb len 17) (cond (ltb hi i) false (isInsert deed)) false
+
+-- The verdict on a document.
+
+abbrev pub isTaken : Judgement → Bool
+isTaken J.Taken = true
+isTaken J.Early = false
+isTaken J.Counter = false
+isTaken J.Repeat = false
+isTaken J.OwnDeps = false
+isTaken J.NoElement = false
+isTaken J.NotSmaller = false
+isTaken J.NoRoom = false
+
+unfoldable pub readyVerdict : M.Operation → Document → Judgement
+readyVerdict o D =
+    cond (astray D o) J.NoElement (cond (downward o) J.NotSmaller (cond (fits (apply o D)) J.Taken J.NoRoom))
+
+-- 2, 3, 4, and whether it comes too early; an operation that none of them stops goes on
+unfoldable pub byCounters : M.Operation → Document → Judgement
+byCounters o D =
+    cond (notAbove o) J.Counter
+    (cond (repeated (D .seen) o) J.Repeat (cond (ownDepsBehind (D .seen) o) J.OwnDeps (cond (readyIn D o) J.Taken J.Early)))
+
+unfoldable pub verdict : M.Operation → Document → Judgement
+verdict o D =
+    cond (notAbove o) J.Counter
+    (cond (repeated (D .seen) o) J.Repeat (cond (ownDepsBehind (D .seen) o) J.OwnDeps (cond (readyIn D o) (readyVerdict o D) J.Early)))
+
+-- The promises.
+
+-- memory that holds a document, as every terminal has it
+pub record Stores (T : Tables) (c : Counts) (seen : List ℕ) (D : Document) : Type 0 where
+  pub rows : Holds T c (rowsOf D)
+  pub counters : seen ≡ D .seen
+  pub sound : Sound D
+  pub limits : fits D ≡ true
+
+-- an operation that is newer than what was seen of its terminal
+abbrev pub Newer : Document → M.Operation → Type 0
+Newer D o = entry (D .seen) (entryOf (o .id)) < counterOf (o .id)
+
+-- the parts of an operation mean o
+pub record Parts (i : ℕ) (d : List ℕ) (deed : Deed) (ks : List ℕ) (n : ℕ) (o : M.Operation) : Type 0 where
+  pub id : i ≡ o .id
+  pub deps : d ≡ o .deps
+  pub deed-is : deed ≡ deedOf (o .way)
+  pub keys : ks ≡ pad 24 (keyWords (o .top) ++ wayWords (o .way))
+  pub count : n ≡ suc (steps (o .way))
+
+-- where the search for the way's first key stops, among the rows of the document
+abbrev pub topPosition : M.Operation → Document → Position
+topPosition o D = behind (passed (over 1 (keyBelow (o .top))) (rowsOf D))
+
+abbrev pub Tops : Tables → Counts → List ℕ → Position → Type 0
+Tops T c ks s =
+    (D : Document) (o : M.Operation) → Stores T c (D .seen) D → ks ≡ pad 24 (keyWords (o .top) ++ wayWords (o .way)) → ValidOperation o
+    → s ≡ topPosition o D
+
+-- the same of tables with any marks and values
+abbrev pub TopsIn : List ℕ → List ℕ → ℕ → List ℕ → Position → Type 0
+TopsIn h k rows ks s = (m v : List ℕ) (c : Counts) → rows ≡ c .rows → Tops (four h k m v) c ks s
+
+abbrev pub JudgesCounters : Counters → Operation → Judgement → Type 0
+JudgesCounters seen op r = (D : Document) (o : M.Operation) → seen .at ≡ D .seen → Means op o → r ≡ byCounters o D
+
+-- with the stop s, from which the way is looked for
+
+abbrev pub JudgesWay : Tables → Counts → Position → ℕ → List ℕ → Deed → List ℕ → ℕ → Judgement → Type 0
+JudgesWay T c s i d deed ks n r =
+    (D : Document) (o : M.Operation) → Stores T c (D .seen) D → Parts i d deed ks n o → ValidOperation o → Newer D o → s ≡ topPosition o D
+    → r ≡ readyVerdict o D
+
+abbrev pub JudgesReady : Tables → Counts → Position → Operation → Judgement → Type 0
+JudgesReady T c s op r =
+    (D : Document) (o : M.Operation) → Stores T c (D .seen) D → Means op o → ValidOperation o → Newer D o → s ≡ topPosition o D
+    → r ≡ readyVerdict o D
+
+abbrev pub CarriesWay : Tables → Counts → Position → Act → List ℕ → ℕ → Counts → Tables → Type 0
+CarriesWay T c s a ks n e U =
+    (D : Document) (o : M.Operation) → Stores T c (D .seen) D → Parts (a .id) (a .deps .at) (a .deed) ks n o
+    → a .words ≡ deedWords (o .way) → ValidOperation o → Newer D o → s ≡ topPosition o D → Holds U e (rowsOf (apply o D))
+
+abbrev pub CarriesOut : Tables → Counts → Position → Operation → Counts → Tables → Type 0
+CarriesOut T c s op e U =
+    (D : Document) (o : M.Operation) → Stores T c (D .seen) D → Means op o → ValidOperation o → Newer D o → s ≡ topPosition o D
+    → Holds U e (rowsOf (apply o D))
+
+-- the whole judgement
+abbrev pub Judges : Tables → Counts → Counters → Operation → Judgement → Type 0
+Judges T c seen op r = (D : Document) (o : M.Operation) → Stores T c (seen .at) D → Means op o → ValidOperation o → r ≡ verdict o D
+
+-- an operation that may be taken leaves the document that it makes
+abbrev pub TakesOn : Tables → Counts → Counters → Operation → Later → Tables → Type 0
+TakesOn T c seen op r U =
+    (D : Document) (o : M.Operation) → Stores T c (seen .at) D → Means op o → ValidOperation o → isTaken (verdict o D) ≡ true
+    → Stores U (r .counts) (r .seen .at) (apply o D)
+
+-- answer, document and every word; for any memory a refusal changes nothing
+pub record Applies (T : Tables) (c : Counts) (seen : Counters) (op : Operation) (r : Outcome) (U : Tables) : Type 0 where
+  pub answers : (D : Document) (o : M.Operation) → Stores T c (seen .at) D → Means op o → ValidOperation o → r .answer ≡ verdict o D
+  pub takes : (D : Document) (o : M.Operation) → Stores T c (seen .at) D → Means op o → ValidOperation o → isTaken (r .answer) ≡ true
+      → Stores U (r .counts) (r .seen .at) (apply o D)
+  pub refuses : isTaken (r .answer) ≡ false → (U ≡ T) × (r .counts ≡ c) × (r .seen ≡ seen)

@@ -1,0 +1,97 @@
+-- Looking for a place under a key, in tables that hold rows; and what goes there.
+-- Assumes nothing.
+use Prim.Native.Nat.{ℕ}
+use native.Mathlib.Omega.{arith}
+use mathlib.Core.Path.{_≡_, refl, sym, ap, _∙_, subst}
+use mathlib.Core.Bool.{Bool, true, false, cond}
+use mathlib.Core.List.{List, [], _∷_, _++_}
+use borrow.Author.Tests.{eqb-true}
+use lib.Dec.{eqb}
+use Rattle.meaning.specs.Sheet.{Spot, Row}
+use Rattle.theorems.specs.Decide.{and-left}
+use Rattle.rows.specs.Blocks.{join, passed, rest, deeper, over, at}
+use Rattle.rows.specs.Locate.{nowhere, here, locateHere, locate}
+use Rattle.rows.specs.Counting.{goneMarks, goneValues, newBlock}
+use Rattle.rows.specs.Balanced.{passed-rest-behind}
+use Rattle.tables.specs.Finds.{Agrees, Tells}
+use Rattle.tables.specs.Wants.{searchOf}
+use Rattle.tables.specs.Standing.{behind}
+use Rattle.tables.specs.Holding.{Holds, four, begins}
+use Rattle.tables.specs.Parts.{at-behind}
+use Rattle.tables.specs.Stands.{FindsIn, Knows}
+use Rattle.tables.specs.declared.Position.{Position}
+use Rattle.tables.specs.declared.Search.{Search}
+use Rattle.forecast.specs.declared.Lost.{Lost}
+use Rattle.forecast.specs.declared.Sight.{Sight}
+use Rattle.forecast.specs.Goes.{Goes, RowGone, BlockGone}
+use Rattle.forecast.specs.Weighs.{Sees, missing, standing, Looks, SightGone}
+
+pub false-true : (b : Bool) → b ≡ false → b ≡ true → ⊥
+false-true b f t = let z : _≡_ {A = ℕ} 0 1 = ap (λ b. cond b 1 0) (sym f ∙ t) in omega arith
+
+-- nothing hangs there
+pub looks-none : (h k : List ℕ) (rows : ℕ) (from : Position) (n : ℕ) (parent_known : Bool) (hi lo len : ℕ) (s : Sight) → s .there ≡ false
+    → parent_known ≡ false → Looks h k rows from n parent_known hi lo len s
+unfolding locate rest locateHere
+looks-none h k rows from n parent_known hi lo len s e z m v c A B pass meant H q f a t =
+    missing e (ap (λ b. locate n pass meant (cond b B [])) z)
+
+-- the first row that isn't passed over, if it is the one that is meant
+sees-first : (rs : List Row) (n : ℕ) (meant : Spot → Bool) (s : Sight) (F B : List Row) → rs ≡ F ++ B → s .at ≡ behind F
+    → s .there ≡ begins n meant B → Sees rs n s (locateHere n meant B)
+unfolding locateHere
+sees-first rs n meant s F [] e f t = missing t refl
+sees-first rs n meant s F (r ∷ R) e f t = go (at n meant r) refl
+  where
+    go : (b : Bool) → at n meant r ≡ b
+        → Sees rs n s (cond (at n meant r) (here (record { own = r; under = passed (deeper n) R })) nowhere)
+    go true y =
+        standing F r R (t ∙ y) e f (eqb-true (r .depth) n (and-left (eqb (r .depth) n) (meant (r .spot)) y))
+        (ap (λ b. cond b (here (record { own = r; under = passed (deeper n) R })) nowhere) y)
+    go false y = missing (t ∙ y) (ap (λ b. cond b (here (record { own = r; under = passed (deeper n) R })) nowhere) y)
+
+pub looks-found : (h k : List ℕ) (rows : ℕ) (from : Position) (n : ℕ) (parent_known : Bool) (hi lo len : ℕ) (w : Search) (s : Position) (b : Bool)
+    → parent_known ≡ true → w ≡ searchOf n hi lo len → FindsIn h k rows from w s → Knows h k rows (s .row) w b
+    → Looks h k rows from n parent_known hi lo len (record { at = s; there = b })
+unfolding locate searchOf
+looks-found h k rows from n parent_known hi lo len w s b x e find know m v c A B pass meant H q f a t =
+    let w′ = searchOf n hi lo len in
+    let o = over n pass in
+    let F = A ++ passed o B in
+    let a′ : Agrees w pass = subst (λ w. Agrees w pass) (sym e) a in
+    let t′ : Tells w meant = subst (λ w. Tells w meant) (sym e) t in
+    let d : w .depth ≡ n = ap (λ w. w .depth) e in
+    let g : s ≡ behind F = find m v c A B pass H q (f x) a′ ∙ ap (λ n. behind (A ++ passed (over n pass) B)) d in
+    let z = passed-rest-behind A o B in
+    let K = subst (Holds (four h k m v) c) z H in
+    let y : b ≡ begins n meant (rest o B) =
+    know m v c F (rest o B) meant K q (at-behind s F g .row) t′ ∙ ap (λ n. begins n meant (rest o B)) d in
+    subst (λ b′. Sees (A ++ B) n (record { at = s; there = b }) (locate n pass meant (cond b′ B []))) (sym x)
+    (sees-first (A ++ B) n meant (record { at = s; there = b }) F (rest o B) z g y)
+
+-- What goes there.
+
+-- of a new place nothing
+new-none : (d : List ℕ) (n : ℕ) (p : Spot) → Goes d (join (newBlock n p)) (record { marks = 0; values = 0 })
+unfolding goneMarks goneValues Rattle.meaning.specs.Clear.clearMarks Rattle.meaning.specs.Clear.clearValues Rattle.meaning.specs.Sets.keep
+new-none d n p = record { marks = refl; values = refl }
+
+pub sight-none : (h m v : List ℕ) (rows : ℕ) (s : Sight) (alone : Bool) (d : List ℕ) → s .there ≡ false
+    → SightGone h m v rows s alone d (record { marks = 0; values = 0 })
+sight-none h m v rows s alone d f k c rs n p l H q (standing F r R y e g z x) = absurd (false-true (s .there) f y)
+sight-none h m v rows s true d f k c rs n p l H q (missing y x) =
+    rw x (refl, new-none d n p .values)
+sight-none h m v rows s false d f k c rs n p l H q (missing y x) = rw x (new-none d n p)
+
+pub sight-row : (h m v : List ℕ) (rows : ℕ) (s : Sight) (alone : Bool) (d : List ℕ) (g : Lost) → alone ≡ true → s .there ≡ true
+    → RowGone h m v (s .at) d g
+    → SightGone h m v rows s alone d (record { marks = 0; values = g .values })
+sight-row h m v rows s alone d g a y W k c rs n p l H q (missing f x) = absurd (false-true (s .there) f y)
+sight-row h m v rows s alone d g a y W k c rs n p l H q (standing F r R y′ e b z x) =
+    rw (a, x) (refl, W .is k c F r R (subst (Holds (four h k m v) c) e H) b .values)
+
+pub sight-block : (h m v : List ℕ) (rows : ℕ) (s : Sight) (alone : Bool) (d : List ℕ) (g : Lost) → alone ≡ false → s .there ≡ true
+    → BlockGone h m v rows (s .at) d g → SightGone h m v rows s alone d g
+sight-block h m v rows s alone d g a y W k c rs n p l H q (missing f x) = absurd (false-true (s .there) f y)
+sight-block h m v rows s alone d g a y W k c rs n p l H q (standing F r R y′ e b z x) =
+    rw (a, x) (subst (λ n. Goes d (r ∷ passed (deeper n) R) g) z (W .is k c F r R q (subst (Holds (four h k m v) c) e H) b))
