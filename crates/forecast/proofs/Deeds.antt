@@ -33,9 +33,9 @@ deed-number (insert p a) = ap (λ b. cond b 3 4) (given-plain a)
 deed-number (intoMap k w) = deed-number w
 deed-number (intoList e w) = deed-number w
 
-pub deed-weighed : (h k m v : List ℕ) (rows : ℕ) (from : Position) (n : ℕ) (parent_known : Bool) (d : List ℕ) (deed : Deed) (i : ℕ) (way : List ℕ)
-    (x : Weight) → i ≡ deedNumber deed → WayWeighed h k m v rows from n parent_known d i way x → Weighed h k m v rows from n parent_known d deed way x
-deed-weighed h k m v rows from n parent_known d deed i way x z W = record {
+pub deed-weighed : (h k m v : List ℕ) (rows : ℕ) (from : Position) (n : ℕ) (parent-known : Bool) (d : List ℕ) (deed : Deed) (i : ℕ) (way : List ℕ)
+    (x : Weight) → i ≡ deedNumber deed → WayWeighed h k m v rows from n parent-known d i way x → Weighed h k m v rows from n parent-known d deed way x
+deed-weighed h k m v rows from n parent-known d deed i way x z W = record {
   few-places = W .few-places;
   few-marks = W .few-marks;
   is = λ c A B w H q f e g ok N. W .is c A B w H q f e (z ∙ (ap deedNumber g ∙ deed-number w)) ok N;

@@ -67,10 +67,10 @@ goes-makes (insert p a) g = refl
 goes-makes (intoMap k w) g = refl
 goes-makes (intoList e w) g = refl
 
-module _ (h k m v : List ℕ) (rows : ℕ) (from : Position) (n : ℕ) (parent_known : Bool) (d : List ℕ) (deed : ℕ) (way : List ℕ) where
+module _ (h k m v : List ℕ) (rows : ℕ) (from : Position) (n : ℕ) (parent-known : Bool) (d : List ℕ) (deed : ℕ) (way : List ℕ) where
   -- it ends here
   pub ends-weighed : ((w : Way) → GoesOn w → way ≡ wayWords w → n + steps w ≤ 9 → ⊥)
-      → WayWeighed h k m v rows from n parent_known d deed way (nothingWeighed true)
+      → WayWeighed h k m v rows from n parent-known d deed way (nothingWeighed true)
   unfolding elementsFoundRows underChange
   ends-weighed never = record {
     few-places = omega arith;
@@ -79,7 +79,7 @@ module _ (h k m v : List ℕ) (rows : ℕ) (from : Position) (n : ℕ) (parent_k
   }
     where
       all : (w : Way) (B : List Row) → way ≡ wayWords w → n + steps w ≤ 9
-          → Weighs (elementsFoundRows d n w (cond parent_known B [])) (underChange d n w (cond parent_known B [])) (nothingWeighed true)
+          → Weighs (elementsFoundRows d n w (cond parent-known B [])) (underChange d n w (cond parent-known B [])) (nothingWeighed true)
       all (assign a) B e N =
           record { found-is = refl; places = refl; marks = refl; values = refl; gone-marks = refl; gone-values = refl }
       all delete B e N =
@@ -88,17 +88,17 @@ module _ (h k m v : List ℕ) (rows : ℕ) (from : Position) (n : ℕ) (parent_k
       all (intoMap t w) B e N = absurd (never (intoMap t w) tt e N)
       all (intoList i w) B e N = absurd (never (intoList i w) tt e N)
 
-  pub short-weighed : length way < 3 → WayWeighed h k m v rows from n parent_known d deed way (nothingWeighed true)
+  pub short-weighed : length way < 3 → WayWeighed h k m v rows from n parent-known d deed way (nothingWeighed true)
   short-weighed l = ends-weighed (λ w g e N. omega (arith, three-words w g, ap length e))
 
-  pub deep-weighed : 8 < n → WayWeighed h k m v rows from n parent_known d deed way (nothingWeighed true)
+  pub deep-weighed : 8 < n → WayWeighed h k m v rows from n parent-known d deed way (nothingWeighed true)
   deep-weighed l = ends-weighed (λ w g e N. omega (arith, one-step w g))
 
   -- its last key
   pub last-weighed : length way ≡ 3 → (x : Weight)
-      → WayWeighed h k m v rows from n parent_known d deed (getD way 0 0 ∷ getD way 1 0 ∷ getD way 2 0 ∷ []) x
-      → WayWeighed h k m v rows from n parent_known d deed way x
-  last-weighed l x W = subst (λ way. WayWeighed h k m v rows from n parent_known d deed way x) (go way l) W
+      → WayWeighed h k m v rows from n parent-known d deed (getD way 0 0 ∷ getD way 1 0 ∷ getD way 2 0 ∷ []) x
+      → WayWeighed h k m v rows from n parent-known d deed way x
+  last-weighed l x W = subst (λ way. WayWeighed h k m v rows from n parent-known d deed way x) (go way l) W
     where
       go : (l : List ℕ) → length l ≡ 3 → getD l 0 0 ∷ getD l 1 0 ∷ getD l 2 0 ∷ [] ≡ l
       go [] e = absurd (omega arith)
@@ -144,12 +144,12 @@ module _ (h k m v : List ℕ) (rows : ℕ) (n : ℕ) (d : List ℕ) (deed : ℕ)
       let z = subst (λ i. Weighs (elementsFoundRows d i w R) (underChange d i w R) x) (add-one n) a′ in
       subst (λ l. Weighs (elementsFoundRows d (suc n) w (underOf l)) (underChange d (suc n) w (underOf l)) x) (sym j) (within d n w x R z)
 
-module _ (h k m v : List ℕ) (rows : ℕ) (from : Position) (n : ℕ) (parent_known : Bool) (d : List ℕ) (deed : ℕ) (way : List ℕ) (s : Sight) (next : Position)
+module _ (h k m v : List ℕ) (rows : ℕ) (from : Position) (n : ℕ) (parent-known : Bool) (d : List ℕ) (deed : ℕ) (way : List ℕ) (s : Sight) (next : Position)
     (x : Weight) where
   step-weighed : 3 ≤ length way → (length way ≡ 3 → ⊥)
-      → Looks h k rows from n parent_known (getD way 0 0) (getD way 1 0) (getD way 2 0) s → Passes h (s .at) next
+      → Looks h k rows from n parent-known (getD way 0 0) (getD way 1 0) (getD way 2 0) s → Passes h (s .at) next
       → WayWeighed h k m v rows next (n + 1) (s .there) d deed (drop 3 way) x
-      → WayWeighed h k m v rows from n parent_known d deed way
+      → WayWeighed h k m v rows from n parent-known d deed way
       (carried (marked x deed) (s .there) (eqb (getD way 2 0) 17) (covered d (getD way 0 0)) true)
   unfolding wayWords wayNumber steps
   step-weighed long more look past under = record {
@@ -184,12 +184,12 @@ module _ (h k m v : List ℕ) (rows : ℕ) (from : Position) (n : ℕ) (parent_k
       U = marked x deed
 
       go : (c : Counts) (A B : List Row) (p : Spot) (w : Way) → Holds (four h k m v) c (A ++ B) → rows ≡ c .rows
-          → (parent_known ≡ true → from ≡ behind A) → hi ∷ lo ∷ len ∷ [] ≡ spotWords p → drop 3 way ≡ wayWords w → deed ≡ wayNumber w
+          → (parent-known ≡ true → from ≡ behind A) → hi ∷ lo ∷ len ∷ [] ≡ spotWords p → drop 3 way ≡ wayWords w → deed ≡ wayNumber w
           → GoodSpot p → ValidWay w → n + suc (steps w) ≤ 9
-          → Weighs (elementsFoundRows d n (into p w) (cond parent_known B [])) (underChange d n (into p w) (cond parent_known B []))
+          → Weighs (elementsFoundRows d n (into p w) (cond parent-known B [])) (underChange d n (into p w) (cond parent-known B []))
           (carried U (s .there) (eqb len 17) (covered d hi) true)
       go c A B p w H q f e t g good ok N =
-          let rs = cond parent_known B [] in
+          let rs = cond parent-known B [] in
           let L = locateAt n p rs in
           let S = look m v c A B (passOf p) (meantOf p) H q f (spot-agrees n hi lo len p e good) (spot-tells n hi lo len p e good) in
           let on = goes-on w (λ z. more (omega (arith, long, length-drop 3 way, ap length (t ∙ z)))) in
@@ -199,8 +199,8 @@ module _ (h k m v : List ℕ) (rows : ℕ) (from : Position) (n : ℕ) (parent_k
           (mark-is d n w (orNew n p L) (elementsFoundRows d (suc n) w (underOf L)) x deed on g W′)
 
       all : (c : Counts) (A B : List Row) (w : Way) → Holds (four h k m v) c (A ++ B) → rows ≡ c .rows
-          → (parent_known ≡ true → from ≡ behind A) → way ≡ wayWords w → deed ≡ wayNumber w → ValidWay w → n + steps w ≤ 9
-          → Weighs (elementsFoundRows d n w (cond parent_known B [])) (underChange d n w (cond parent_known B []))
+          → (parent-known ≡ true → from ≡ behind A) → way ≡ wayWords w → deed ≡ wayNumber w → ValidWay w → n + steps w ≤ 9
+          → Weighs (elementsFoundRows d n w (cond parent-known B [])) (underChange d n w (cond parent-known B []))
           (carried U (s .there) (eqb len 17) (covered d hi) true)
       all c A B (assign a) H q f e g ok N = absurd (omega (arith, long, ap length e))
       all c A B delete H q f e g ok N = absurd (omega (arith, long, ap length e))
@@ -212,14 +212,14 @@ module _ (h k m v : List ℕ) (rows : ℕ) (from : Position) (n : ℕ) (parent_k
 
   -- the same as the code has it: the rest of the way is a part of it, and each step has its result
   pub part-weighed : (u y : Weight) (covers : Bool) → 3 ≤ length way → (length way ≡ 3 → ⊥)
-      → Looks h k rows from n parent_known (getD way 0 0) (getD way 1 0) (getD way 2 0) s → Passes h (s .at) next
+      → Looks h k rows from n parent-known (getD way 0 0) (getD way 1 0) (getD way 2 0) s → Passes h (s .at) next
       → WayWeighed h k m v rows next (n + 1) (s .there) d deed (take (length way - 3) (drop 3 way)) x
       → u ≡ marked x deed → covers ≡ covered d (getD way 0 0) → y ≡ carried u (s .there) (eqb (getD way 2 0) 17) covers true
-      → WayWeighed h k m v rows from n parent_known d deed way y
+      → WayWeighed h k m v rows from n parent-known d deed way y
   part-weighed u y covers long more look past under a b e =
       let whole = take-all (length way - 3) (drop 3 way) (omega (arith, length-drop 3 way)) in
       let z = subst (λ l. WayWeighed h k m v rows next (n + 1) (s .there) d deed l x) whole under in
-      subst (WayWeighed h k m v rows from n parent_known d deed way)
+      subst (WayWeighed h k m v rows from n parent-known d deed way)
       (sym (e ∙ (ap (λ u. carried u (s .there) (eqb (getD way 2 0) 17) covers true) a
       ∙ ap (λ t. carried (marked x deed) (s .there) (eqb (getD way 2 0) 17) t true) b)))
       (step-weighed long more look past z)

@@ -93,12 +93,12 @@ insert-number p (plain v) = omega arith
 insert-number p emptyMap = omega arith
 insert-number p emptyList = omega arith
 
-module _ (h k m v : List ℕ) (rows : ℕ) (from : Position) (n : ℕ) (parent_known : Bool) (d : List ℕ) (deed hi lo len : ℕ) where
+module _ (h k m v : List ℕ) (rows : ℕ) (from : Position) (n : ℕ) (parent-known : Bool) (d : List ℕ) (deed hi lo len : ℕ) where
   some-words : (hi ∷ lo ∷ len ∷ [] ≡ []) → ⊥
   some-words e = let z : _≡_ {A = ℕ} 3 0 = ap length e in omega arith
 
-  pub target-weighed : (s : Sight) (u : Weight) → deed < 3 → Looks h k rows from n parent_known hi lo len s → PlaceWeighed h m v rows s d deed u
-      → WayWeighed h k m v rows from n parent_known d deed (hi ∷ lo ∷ len ∷ [])
+  pub target-weighed : (s : Sight) (u : Weight) → deed < 3 → Looks h k rows from n parent-known hi lo len s → PlaceWeighed h m v rows s d deed u
+      → WayWeighed h k m v rows from n parent-known d deed (hi ∷ lo ∷ len ∷ [])
       (carried u (s .there) (eqb len 17) (covered d hi) (not (eqb deed 0)))
   unfolding wayWords wayNumber
   target-weighed s u small look place = record {
@@ -111,10 +111,10 @@ module _ (h k m v : List ℕ) (rows : ℕ) (from : Position) (n : ℕ) (parent_k
       X = carried u (s .there) (eqb len 17) (covered d hi) (not (eqb deed 0))
 
       go : (c : Counts) (A B : List Row) (p : Spot) (w : Way) → Holds (four h k m v) c (A ++ B) → rows ≡ c .rows
-          → (parent_known ≡ true → from ≡ behind A) → hi ∷ lo ∷ len ∷ [] ≡ spotWords p → wayWords w ≡ [] → deed ≡ wayNumber w → GoodSpot p
-          → Weighs (elementsFoundRows d n (into p w) (cond parent_known B [])) (underChange d n (into p w) (cond parent_known B [])) X
+          → (parent-known ≡ true → from ≡ behind A) → hi ∷ lo ∷ len ∷ [] ≡ spotWords p → wayWords w ≡ [] → deed ≡ wayNumber w → GoodSpot p
+          → Weighs (elementsFoundRows d n (into p w) (cond parent-known B [])) (underChange d n (into p w) (cond parent-known B [])) X
       go c A B p w H q f e z g ok =
-          let rs = cond parent_known B [] in
+          let rs = cond parent-known B [] in
           let L = locateAt n p rs in
           let S = look m v c A B (passOf p) (meantOf p) H q f (spot-agrees n hi lo len p e ok) (spot-tells n hi lo len p e ok) in
           let W = place .is k c (A ++ B) n p L w H q S z g in
@@ -123,8 +123,8 @@ module _ (h k m v : List ℕ) (rows : ℕ) (from : Position) (n : ℕ) (parent_k
           (subst (λ b. Weighs b (runChange d n w (orNew n p L)) u) (sym (ends-found d (suc n) w (underOf L) (ends w z))) W)
 
       all : (c : Counts) (A B : List Row) (w : Way) → Holds (four h k m v) c (A ++ B) → rows ≡ c .rows
-          → (parent_known ≡ true → from ≡ behind A) → hi ∷ lo ∷ len ∷ [] ≡ wayWords w → deed ≡ wayNumber w → ValidWay w
-          → Weighs (elementsFoundRows d n w (cond parent_known B [])) (underChange d n w (cond parent_known B [])) X
+          → (parent-known ≡ true → from ≡ behind A) → hi ∷ lo ∷ len ∷ [] ≡ wayWords w → deed ≡ wayNumber w → ValidWay w
+          → Weighs (elementsFoundRows d n w (cond parent-known B [])) (underChange d n w (cond parent-known B [])) X
       all c A B (assign a) H q f e g ok = absurd (some-words e)
       all c A B delete H q f e g ok = absurd (some-words e)
       all c A B (insert p a) H q f e g ok = absurd (omega (arith, insert-number p a))
@@ -137,10 +137,10 @@ module _ (h k m v : List ℕ) (rows : ℕ) (from : Position) (n : ℕ) (parent_k
   pub insert-weighed : (x : Weight) → 3 ≤ deed → x .places ≤ 1 → x .marks ≤ 1
       → ((a : Assigned) → len ≡ 18 → deed ≡ cond (isPlain a) 3 4 → Weighs true (newChange a) x)
       → ((c : Counts) (A B : List Row) (a : Assigned) (e : ℕ) → Holds (four h k m v) c (A ++ B) → rows ≡ c .rows
-      → (parent_known ≡ true → from ≡ behind A) → hi ∷ lo ∷ len ∷ [] ≡ spotWords (inList e) → deed ≡ cond (isPlain a) 3 4
-      → Weighs (covered d e && isLocated (locateAt n (inList e) (cond parent_known B [])))
-      (cond (isLocated (locateAt n (inList e) (cond parent_known B []))) (newChange a) noChange) x)
-      → WayWeighed h k m v rows from n parent_known d deed (hi ∷ lo ∷ len ∷ []) x
+      → (parent-known ≡ true → from ≡ behind A) → hi ∷ lo ∷ len ∷ [] ≡ spotWords (inList e) → deed ≡ cond (isPlain a) 3 4
+      → Weighs (covered d e && isLocated (locateAt n (inList e) (cond parent-known B [])))
+      (cond (isLocated (locateAt n (inList e) (cond parent-known B []))) (newChange a) noChange) x)
+      → WayWeighed h k m v rows from n parent-known d deed (hi ∷ lo ∷ len ∷ []) x
   unfolding wayWords prevWords wayNumber elementsFoundRows underChange locateElement
   insert-weighed x big fp fm first other = record {
     few-places = omega arith;
@@ -149,8 +149,8 @@ module _ (h k m v : List ℕ) (rows : ℕ) (from : Position) (n : ℕ) (parent_k
   }
     where
       all : (c : Counts) (A B : List Row) (w : Way) → Holds (four h k m v) c (A ++ B) → rows ≡ c .rows
-          → (parent_known ≡ true → from ≡ behind A) → hi ∷ lo ∷ len ∷ [] ≡ wayWords w → deed ≡ wayNumber w
-          → Weighs (elementsFoundRows d n w (cond parent_known B [])) (underChange d n w (cond parent_known B [])) x
+          → (parent-known ≡ true → from ≡ behind A) → hi ∷ lo ∷ len ∷ [] ≡ wayWords w → deed ≡ wayNumber w
+          → Weighs (elementsFoundRows d n w (cond parent-known B [])) (underChange d n w (cond parent-known B [])) x
       all c A B (assign a) H q f e g = absurd (some-words e)
       all c A B delete H q f e g = absurd (some-words e)
       all c A B (insert head a) H q f e g = first a (ap (λ l. getD l 2 0) e) g
@@ -168,7 +168,7 @@ module _ (h k m v : List ℕ) (rows : ℕ) (from : Position) (n : ℕ) (parent_k
       rw e (record { found-is = refl; places = refl; marks = refl; values = refl; gone-marks = refl; gone-values = refl })
 
   pub insert-first : 3 ≤ deed → len ≡ 18
-      → WayWeighed h k m v rows from n parent_known d deed (hi ∷ lo ∷ len ∷ []) (elementWeighed true deed)
+      → WayWeighed h k m v rows from n parent-known d deed (hi ∷ lo ∷ len ∷ []) (elementWeighed true deed)
   unfolding elementWeighed
   insert-first big l =
       insert-weighed (elementWeighed true deed) big (omega arith) (omega arith) (λ a q g. element-is a true g)
@@ -178,19 +178,19 @@ module _ (h k m v : List ℕ) (rows : ℕ) (from : Position) (n : ℕ) (parent_k
   and-true true = refl
   and-true false = refl
 
-  pub insert-there : (s : Sight) → 3 ≤ deed → (len ≡ 18 → ⊥) → Looks h k rows from n parent_known hi lo len s → s .there ≡ true
-      → WayWeighed h k m v rows from n parent_known d deed (hi ∷ lo ∷ len ∷ []) (elementWeighed (covered d hi) deed)
+  pub insert-there : (s : Sight) → 3 ≤ deed → (len ≡ 18 → ⊥) → Looks h k rows from n parent-known hi lo len s → s .there ≡ true
+      → WayWeighed h k m v rows from n parent-known d deed (hi ∷ lo ∷ len ∷ []) (elementWeighed (covered d hi) deed)
   unfolding elementWeighed
   insert-there s big l look t =
       insert-weighed (elementWeighed (covered d hi) deed) big (omega arith) (omega arith) (λ a q g. absurd (l q))
       (λ c A B a e H q f z g. go c A B a e H q f z g)
     where
       go : (c : Counts) (A B : List Row) (a : Assigned) (e : ℕ) → Holds (four h k m v) c (A ++ B) → rows ≡ c .rows
-          → (parent_known ≡ true → from ≡ behind A) → hi ∷ lo ∷ len ∷ [] ≡ spotWords (inList e) → deed ≡ cond (isPlain a) 3 4
-          → Weighs (covered d e && isLocated (locateAt n (inList e) (cond parent_known B [])))
-          (cond (isLocated (locateAt n (inList e) (cond parent_known B []))) (newChange a) noChange) (elementWeighed (covered d hi) deed)
+          → (parent-known ≡ true → from ≡ behind A) → hi ∷ lo ∷ len ∷ [] ≡ spotWords (inList e) → deed ≡ cond (isPlain a) 3 4
+          → Weighs (covered d e && isLocated (locateAt n (inList e) (cond parent-known B [])))
+          (cond (isLocated (locateAt n (inList e) (cond parent-known B []))) (newChange a) noChange) (elementWeighed (covered d hi) deed)
       go c A B a e H q f z g =
-          let L = locateAt n (inList e) (cond parent_known B []) in
+          let L = locateAt n (inList e) (cond parent-known B []) in
           let S = look m v c A B (passOf (inList e)) (meantOf (inList e)) H q f (spot-agrees n hi lo len (inList e) z tt)
           (spot-tells n hi lo len (inList e) z tt) in
           let y : isLocated L ≡ true = sym (sees-there (A ++ B) n s L S) ∙ t in
@@ -199,18 +199,18 @@ module _ (h k m v : List ℕ) (rows : ℕ) (from : Position) (n : ℕ) (parent_k
           (subst (λ b. Weighs b (newChange a) (elementWeighed (covered d hi) deed)) (ap (covered d) i ∙ sym (and-true (covered d e)))
           (element-is a (covered d hi) g))
 
-  pub insert-missing : (s : Sight) → 3 ≤ deed → (len ≡ 18 → ⊥) → Looks h k rows from n parent_known hi lo len s → s .there ≡ false
-      → WayWeighed h k m v rows from n parent_known d deed (hi ∷ lo ∷ len ∷ []) (nothingWeighed false)
+  pub insert-missing : (s : Sight) → 3 ≤ deed → (len ≡ 18 → ⊥) → Looks h k rows from n parent-known hi lo len s → s .there ≡ false
+      → WayWeighed h k m v rows from n parent-known d deed (hi ∷ lo ∷ len ∷ []) (nothingWeighed false)
   insert-missing s big l look t =
       insert-weighed (nothingWeighed false) big (omega arith) (omega arith) (λ a q g. absurd (l q))
       (λ c A B a e H q f z g. go c A B a e H q f z)
     where
       go : (c : Counts) (A B : List Row) (a : Assigned) (e : ℕ) → Holds (four h k m v) c (A ++ B) → rows ≡ c .rows
-          → (parent_known ≡ true → from ≡ behind A) → hi ∷ lo ∷ len ∷ [] ≡ spotWords (inList e)
-          → Weighs (covered d e && isLocated (locateAt n (inList e) (cond parent_known B [])))
-          (cond (isLocated (locateAt n (inList e) (cond parent_known B []))) (newChange a) noChange) (nothingWeighed false)
+          → (parent-known ≡ true → from ≡ behind A) → hi ∷ lo ∷ len ∷ [] ≡ spotWords (inList e)
+          → Weighs (covered d e && isLocated (locateAt n (inList e) (cond parent-known B [])))
+          (cond (isLocated (locateAt n (inList e) (cond parent-known B []))) (newChange a) noChange) (nothingWeighed false)
       go c A B a e H q f z =
-          let L = locateAt n (inList e) (cond parent_known B []) in
+          let L = locateAt n (inList e) (cond parent-known B []) in
           let S = look m v c A B (passOf (inList e)) (meantOf (inList e)) H q f (spot-agrees n hi lo len (inList e) z tt)
           (spot-tells n hi lo len (inList e) z tt) in
           let y : isLocated L ≡ false = sym (sees-there (A ++ B) n s L S) ∙ t in

@@ -40,10 +40,10 @@ pub data Sees (rs : List Row) (n : ℕ) (s : Sight) (l : Located) : Type 0 where
       → l ≡ here (record { own = r; under = passed (deeper n) R }) → Sees rs n s l
 
 abbrev pub Looks : List ℕ → List ℕ → ℕ → Position → ℕ → Bool → ℕ → ℕ → ℕ → Sight → Type 0
-Looks h k rows from n parent_known hi lo len s =
+Looks h k rows from n parent-known hi lo len s =
     (m v : List ℕ) (c : Counts) (A B : List Row) (pass meant : Spot → Bool) → Holds (four h k m v) c (A ++ B) → rows ≡ c .rows
-    → (parent_known ≡ true → from ≡ behind A) → Agrees (searchOf n hi lo len) pass → Tells (searchOf n hi lo len) meant
-    → Sees (A ++ B) n s (locate n pass meant (cond parent_known B []))
+    → (parent-known ≡ true → from ≡ behind A) → Agrees (searchOf n hi lo len) pass → Tells (searchOf n hi lo len) meant
+    → Sees (A ++ B) n s (locate n pass meant (cond parent-known B []))
 
 -- the block that was found, or that of a new place
 abbrev pub orNew : ℕ → Spot → Located → Block
@@ -151,18 +151,18 @@ pub record PlaceWeighed (h m v : List ℕ) (rows : ℕ) (s : Sight) (d : List �
       → Weighs true (runChange d n w (orNew n p l)) x
 
 -- a way from a place on; n is the depth of the rows that hang there, if any do
-pub record WayWeighed (h k m v : List ℕ) (rows : ℕ) (from : Position) (n : ℕ) (parent_known : Bool) (d : List ℕ) (deed : ℕ) (way : List ℕ)
+pub record WayWeighed (h k m v : List ℕ) (rows : ℕ) (from : Position) (n : ℕ) (parent-known : Bool) (d : List ℕ) (deed : ℕ) (way : List ℕ)
     (x : Weight) : Type 0 where
   pub few-places : x .places ≤ length way
   pub few-marks : x .marks ≤ length way
   pub is : (c : Counts) (A B : List Row) (w : Way) → Holds (four h k m v) c (A ++ B) → rows ≡ c .rows
-      → (parent_known ≡ true → from ≡ behind A) → way ≡ wayWords w → deed ≡ wayNumber w → ValidWay w → n + steps w ≤ 9
-      → Weighs (elementsFoundRows d n w (cond parent_known B [])) (underChange d n w (cond parent_known B [])) x
+      → (parent-known ≡ true → from ≡ behind A) → way ≡ wayWords w → deed ≡ wayNumber w → ValidWay w → n + steps w ≤ 9
+      → Weighs (elementsFoundRows d n w (cond parent-known B [])) (underChange d n w (cond parent-known B [])) x
 
-pub record Weighed (h k m v : List ℕ) (rows : ℕ) (from : Position) (n : ℕ) (parent_known : Bool) (d : List ℕ) (deed : Deed) (way : List ℕ)
+pub record Weighed (h k m v : List ℕ) (rows : ℕ) (from : Position) (n : ℕ) (parent-known : Bool) (d : List ℕ) (deed : Deed) (way : List ℕ)
     (x : Weight) : Type 0 where
   pub few-places : x .places ≤ length way
   pub few-marks : x .marks ≤ length way
   pub is : (c : Counts) (A B : List Row) (w : Way) → Holds (four h k m v) c (A ++ B) → rows ≡ c .rows
-      → (parent_known ≡ true → from ≡ behind A) → way ≡ wayWords w → deed ≡ deedOf w → ValidWay w → n + steps w ≤ 9
-      → Weighs (elementsFoundRows d n w (cond parent_known B [])) (underChange d n w (cond parent_known B [])) x
+      → (parent-known ≡ true → from ≡ behind A) → way ≡ wayWords w → deed ≡ deedOf w → ValidWay w → n + steps w ≤ 9
+      → Weighs (elementsFoundRows d n w (cond parent-known B [])) (underChange d n w (cond parent-known B [])) x

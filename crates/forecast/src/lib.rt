@@ -59,7 +59,7 @@ pub fn look(
     lo: u64,
     len: u64,
 ) -> Sight
-    ensures { λ s. ⌜ Looks (now (heads .entry)) (now (keys .entry)) rows from n parent_known hi lo len s ⌝ }
+    ensures { λ s. ⌜ Looks (now (heads .entry)) (now (keys .entry)) rows from n «parent_known» hi lo len s ⌝ }
 {
     if !parent_known {
         return Sight {
@@ -164,7 +164,7 @@ fn weigh_insert(
 ) -> Weight
     requires { ⌜ 3 ≤ deed ⌝ }
     ensures { λ x. ⌜ ((m v : List ℕ) → WayWeighed (now (heads .entry)) (now (keys .entry)) m v
-        rows from n parent_known (d .at) deed (hi ∷ lo ∷ len ∷ []) x) ⌝ }
+        rows from n «parent_known» (d .at) deed (hi ∷ lo ∷ len ∷ []) x) ⌝ }
 {
     if len == 18 {
         return element(true, deed);
@@ -194,7 +194,7 @@ fn weigh_target(
 ) -> Weight
     requires { ⌜ deed < 3 ⌝ }
     ensures { λ x. ⌜ WayWeighed (now (heads .entry)) (now (keys .entry)) (now (marks .entry)) (now (values .entry))
-        rows from n parent_known (d .at) deed (hi ∷ lo ∷ len ∷ []) x ⌝ }
+        rows from n «parent_known» (d .at) deed (hi ∷ lo ∷ len ∷ []) x ⌝ }
 {
     let s = look(heads, keys, rows, from, n, parent_known, hi, lo, len);
     let u = weigh_place(heads, marks, values, rows, s, d, deed);
@@ -217,7 +217,7 @@ fn weigh_last(
     len: u64,
 ) -> Weight
     ensures { λ x. ⌜ WayWeighed (now (heads .entry)) (now (keys .entry)) (now (marks .entry)) (now (values .entry))
-        rows from n parent_known (d .at) deed (hi ∷ lo ∷ len ∷ []) x ⌝ }
+        rows from n «parent_known» (d .at) deed (hi ∷ lo ∷ len ∷ []) x ⌝ }
 {
     if deed >= 3 {
         return weigh_insert(
@@ -266,7 +266,7 @@ fn weigh_way(
     way: &[u64],
 ) -> Weight
     ensures { λ x. ⌜ WayWeighed (now (heads .entry)) (now (keys .entry)) (now (marks .entry)) (now (values .entry))
-        rows from n parent_known (d .at) deed (now (way .entry)) x ⌝ }
+        rows from n «parent_known» (d .at) deed (now (way .entry)) x ⌝ }
 {
     if way.len() < 3 {
         return weightless(true);
@@ -328,7 +328,7 @@ pub fn weigh(
     way: &[u64],
 ) -> Weight
     ensures { λ x. ⌜ Weighed (now (heads .entry)) (now (keys .entry)) (now (marks .entry)) (now (values .entry))
-        rows from n parent_known (d .at) deed (now (way .entry)) x ⌝ }
+        rows from n «parent_known» (d .at) deed (now (way .entry)) x ⌝ }
 {
     weigh_way(
         heads,
