@@ -17,6 +17,8 @@ use Rattle.meaning.specs.Stream.{messages}
 use Rattle.meaning.specs.Promises.{ReceivesAll, Saves}
 use Rattle.meaning.specs.declared.Receipt.the-variants as R
 use Rattle.meaning.specs.declared.Saved.{Saved}
+use Rattle.meaning.specs.declared.Saved.the-variants as S
+use Rattle.theorems.specs.Numbered.{saved-settled}
 use Rattle.theorems.specs.Sizes.{sheet-short}
 use Rattle.tables.specs.Words.{Tables}
 use Rattle.stream.specs.Pieces.{whole, tooLong, judged, pieces, held, Moved, joined}
@@ -95,12 +97,12 @@ run-merges {b = b} {c = c} {chunks = chunks} u K r =
 pub merged-prints : {input : List ℕ} {U : Tables} {t : List ℕ} {s : State} (m : Merged input U t s) {before after : List ℕ} {answer : Saved}
     → 65536 ≤ length before → Saves (m .exit .document) before answer after → Prints input answer after
 unfolding save over
-merged-prints m {before} {after} l h =
+merged-prints m {before} {after} {answer} l h =
     let D = m .exit .document in
     let k : length (sheet D) ≤ length before = omega (arith, sheet-short D (m .keeps .document .sound) (m .keeps .document .limits)) in
     record {
       written = length (sheet D);
-      answers = rw (le-ltb (length before) (length (sheet D)) k) at (h .answers);
+      answers = saved-settled answer (S.Written (length (sheet D))) (rw (le-ltb (length before) (length (sheet D)) k) at (h .answers));
       merges = record {
         exit = m .exit;
         receives = m .receives;

@@ -1,6 +1,9 @@
--- Document 01, "What is answered": for each case of an answer its number and what it gives.
+-- Document 01, "What is answered": for each case of an answer its number and what it gives. The meaning answers by these numbers and
+-- values; a promise says that the enum's answer is that.
 -- Assumes nothing: these are definitions.
 use Prim.Native.Nat.{ℕ}
+use mathlib.Core.Bool.{Bool, true, false, not, cond, _||_}
+use lib.Dec.{eqb}
 use Rattle.meaning.specs.declared.Receipt.{Receipt}
 use Rattle.meaning.specs.declared.Receipt.the-variants as R
 use Rattle.meaning.specs.declared.Edited.{Edited}
@@ -34,6 +37,18 @@ badLine l = record { number = 12; applied = 0; dropped = 0; written = 0; line = 
 
 abbrev pub short : ℕ → Answer
 short n = record { number = 13; applied = 0; dropped = 0; written = 0; line = 0; needed = n }
+
+-- all but 0 and 5 leave document, waiting messages and buffers unchanged
+abbrev pub refuses : ℕ → Bool
+refuses n = not (eqb n 0 || eqb n 5)
+
+-- a test that has come out true
+abbrev pub So : Bool → Type 0
+So true = Unit {0}
+So false = ⊥
+
+abbrev pub Refusal : Answer → Type 0
+Refusal a = So (refuses (a .number))
 
 abbrev pub receiptAnswer : Receipt → Answer
 receiptAnswer (R.Applied a d) = done a d 0
@@ -70,3 +85,40 @@ readingAnswer (G.Written w) = done 0 0 w
 readingAnswer G.Layout = only 1
 readingAnswer G.NotThere = only 14
 readingAnswer (G.ShortBuffer n) = short n
+
+-- The case that a number names, where the operation can answer it.
+
+abbrev has : Answer → ℕ → Bool
+has a n = eqb (a .number) n
+
+unfoldable pub receiptOf : Answer → Receipt
+receiptOf a =
+    cond (has a 0) (R.Applied (a .applied) (a .dropped))
+    (cond (has a 1) R.Layout
+    (cond (has a 2) R.Counter
+    (cond (has a 3) R.Repeat
+    (cond (has a 4) R.OwnDeps
+    (cond (has a 5) R.Waiting
+    (cond (has a 6) R.WaitsAlready
+    (cond (has a 7) R.WaitingFull
+    (cond (has a 8) R.NoElement
+    (cond (has a 9) R.NotSmaller R.NoRoom)))))))))
+
+unfoldable pub editedOf : Answer → Edited
+editedOf a =
+    cond (has a 0) (E.Applied (a .applied) (a .dropped) (a .written))
+    (cond (has a 1) E.Layout
+    (cond (has a 8) E.NoElement
+    (cond (has a 9) E.NotSmaller
+    (cond (has a 10) E.NoRoom
+    (cond (has a 11) E.LastCounter (E.ShortBuffer (a .needed)))))))
+
+unfoldable pub savedOf : Answer → Saved
+savedOf a = cond (has a 0) (S.Written (a .written)) (S.ShortBuffer (a .needed))
+
+unfoldable pub loadedOf : Answer → Loaded
+loadedOf a = cond (has a 0) L.Taken (L.BadLine (a .line))
+
+unfoldable pub readingOf : Answer → Reading
+readingOf a =
+    cond (has a 0) (G.Written (a .written)) (cond (has a 1) G.Layout (cond (has a 14) G.NotThere (G.ShortBuffer (a .needed))))

@@ -13,8 +13,7 @@ use Rattle.meaning.specs.Judge.{astray, downward}
 use Rattle.meaning.specs.Receive.{Terminal, settle}
 use Rattle.meaning.specs.Text.{over}
 use Rattle.meaning.specs.Message.{message}
-use Rattle.meaning.specs.declared.Edited.{Edited}
-use Rattle.meaning.specs.declared.Edited.the-variants as E
+use Rattle.meaning.specs.Answers.{Answer, done, only, short}
 
 unfoldable pub largest : List ℕ → ℕ
 largest [] = 0
@@ -30,23 +29,23 @@ spent [] = false
 spent (x ∷ s) = eqb x 4294967295 || spent s
 
 pub data EditVerdict : Type 0 where
-  refused : Edited → EditVerdict
+  refused : Answer → EditVerdict
   taken : EditVerdict
 
 -- 11, 8, 9, 10, 13, else it is applied; n is the buffer's length
 unfoldable pub judgeEdit : Operation → Terminal → ℕ → EditVerdict
 judgeEdit o T n =
     let D = T .document in
-    cond (spent (D .seen)) (refused E.LastCounter)
-    (cond (astray D o) (refused E.NoElement)
-    (cond (downward o) (refused E.NotSmaller)
+    cond (spent (D .seen)) (refused (only 11))
+    (cond (astray D o) (refused (only 8))
+    (cond (downward o) (refused (only 9))
     (cond (fits (apply o D))
-    (cond (ltb n (length (message o))) (refused (E.ShortBuffer (length (message o)))) taken)
-    (refused E.NoRoom))))
+    (cond (ltb n (length (message o))) (refused (short (length (message o)))) taken)
+    (refused (only 10)))))
 
 -- what an edit comes to: the answer, the terminal, the caller's buffer, and the operations applied in their order
 pub record EditOutcome : Type 0 where
-  pub answer : Edited
+  pub answer : Answer
   pub terminal : Terminal
   pub buffer : List ℕ
   pub applied : List Operation
@@ -56,7 +55,7 @@ finishEdit o T buffer (refused a) = record { answer = a; terminal = T; buffer = 
 finishEdit o T buffer taken =
     let r = settle (record { document = apply o (T .document); waiting = T .waiting }) in
     record {
-      answer = E.Applied (suc (length (r .applied))) (r .dropped) (length (message o));
+      answer = done (suc (length (r .applied))) (r .dropped) (length (message o));
       terminal = r .terminal;
       buffer = over (message o) buffer;
       applied = o ∷ r .applied;

@@ -8,6 +8,7 @@ pub mod Apply
 pub mod Limits
 pub mod Judge
 pub mod Answers
+pub mod Numbers
 pub mod Receive
 pub mod Text
 pub mod Valid

@@ -1,4 +1,5 @@
--- What each public operation promises, for every input: answer, document, waiting messages and every byte of the caller's buffer.
+-- What each public operation promises, for every input: answer, document, waiting messages and every byte of the caller's buffer. The
+-- answer is an enum, and the promise is about its number and values in document 01 (specs/Answers).
 -- Theorem (crate `theorems`): any two outcomes that meet a promise are equal.
 -- Assumes nothing: these are definitions.
 use Prim.Native.Nat.{ℕ, _≤_}
@@ -15,15 +16,13 @@ use Rattle.meaning.specs.Load.{Accepted, Broken}
 use Rattle.meaning.specs.Read.{ValidPlaceWay, placeWayText, ValidKeysWay, keysWayText, elementWayText}
 use Rattle.meaning.specs.Read.{Told, keys, values, nthElement, ReadOutcome, answerRead}
 use Rattle.meaning.specs.Stream.{messages}
+use Rattle.meaning.specs.Answers.{Answer, done, only, badLine}
+use Rattle.meaning.specs.Answers.{receiptAnswer, editedAnswer, savedAnswer, loadedAnswer, readingAnswer}
 use Rattle.meaning.specs.declared.Receipt.{Receipt}
-use Rattle.meaning.specs.declared.Receipt.the-variants as R
 use Rattle.meaning.specs.declared.Edited.{Edited}
-use Rattle.meaning.specs.declared.Edited.the-variants as E
 use Rattle.meaning.specs.declared.Saved.{Saved}
 use Rattle.meaning.specs.declared.Loaded.{Loaded}
-use Rattle.meaning.specs.declared.Loaded.the-variants as L
 use Rattle.meaning.specs.declared.Reading.{Reading}
-use Rattle.meaning.specs.declared.Reading.the-variants as G
 
 -- What bytes say in a layout: they are the text of a valid thing, or of none.
 pub data Says {A : Type 0} (Valid : A → Type 0) (text : A → List ℕ) (bytes : List ℕ) : Type 0 where
@@ -34,11 +33,11 @@ pub data Says {A : Type 0} (Valid : A → Type 0) (text : A → List ℕ) (bytes
 
 abbrev pub received : {bytes : List ℕ} → Says ValidOperation message bytes → Terminal → Received
 received (says o v e) T = receive o T
-received (saysNothing n) T = refusing R.Layout T
+received (saysNothing n) T = refusing (only 1) T
 
 pub record Receives (T : Terminal) (bytes : List ℕ) (answer : Receipt) (exit : Terminal) : Type 0 where
   pub reads : Says ValidOperation message bytes
-  pub answers : answer ≡ received reads T .answer
+  pub answers : receiptAnswer answer ≡ received reads T .answer
   pub leaves : exit ≡ received reads T .terminal
 
 -- A local edit: the device's number, and a message's lines from `at=` on.
@@ -58,37 +57,51 @@ linesOf l = editText (l .top) (l .way)
 
 abbrev pub edited : {bytes : List ℕ} (r : ℕ) → Says (ValidLines r) linesOf bytes → Terminal → List ℕ → EditOutcome
 edited r (says l v e) T buffer = edit r (l .top) (l .way) T buffer
-edited r (saysNothing n) T buffer = record { answer = E.Layout; terminal = T; buffer = buffer; applied = [] }
+edited r (saysNothing n) T buffer = record { answer = only 1; terminal = T; buffer = buffer; applied = [] }
 
 pub record Edits (T : Terminal) (r : ℕ) (bytes buffer : List ℕ) (answer : Edited) (exit : Terminal) (written : List ℕ) : Type 0 where
   pub reads : Says (ValidLines r) linesOf bytes
-  pub answers : answer ≡ edited r reads T buffer .answer
+  pub answers : editedAnswer answer ≡ edited r reads T buffer .answer
   pub leaves : exit ≡ edited r reads T buffer .terminal
   pub writes : written ≡ edited r reads T buffer .buffer
 
 -- Saving.
 
 pub record Saves (D : Document) (buffer : List ℕ) (answer : Saved) (written : List ℕ) : Type 0 where
-  pub answers : answer ≡ save D buffer .answer
+  pub answers : savedAnswer answer ≡ save D buffer .answer
   pub writes : written ≡ save D buffer .buffer
 
 -- Loading: nothing waits in a loaded terminal, and a refusal leaves it as it was.
 
-abbrev pub Loads : Terminal → List ℕ → Loaded → Terminal → Type 0
-Loads T bytes L.Taken exit = (D : Document) × Accepted bytes D × (exit ≡ record { document = D; waiting = [] })
-Loads T bytes (L.BadLine n) exit = Broken bytes n × (exit ≡ T)
+-- what bytes say as a sheet: a document, or that a line is the first to break a rule
+pub data SheetSays (bytes : List ℕ) : Type 0 where
+  accepted : (D : Document) → Accepted bytes D → SheetSays bytes
+  broken : (n : ℕ) → Broken bytes n → SheetSays bytes
+
+pub record LoadOutcome : Type 0 where
+  pub answer : Answer
+  pub terminal : Terminal
+
+abbrev pub loaded : {bytes : List ℕ} → SheetSays bytes → Terminal → LoadOutcome
+loaded (accepted D a) T = record { answer = done 0 0 0; terminal = record { document = D; waiting = [] } }
+loaded (broken n b) T = record { answer = badLine n; terminal = T }
+
+pub record Loads (T : Terminal) (bytes : List ℕ) (answer : Loaded) (exit : Terminal) : Type 0 where
+  pub reads : SheetSays bytes
+  pub answers : loadedAnswer answer ≡ loaded reads T .answer
+  pub leaves : exit ≡ loaded reads T .terminal
 
 -- The three reads.
 
 abbrev pub asked : {A : Type 0} {Valid : A → Type 0} {text : A → List ℕ} {bytes : List ℕ}
     → (A → Document → Told) → Says Valid text bytes → Document → List ℕ → ReadOutcome
 asked look (says w v e) D buffer = answerRead (look w D) buffer
-asked look (saysNothing n) D buffer = record { answer = G.Layout; buffer = buffer }
+asked look (saysNothing n) D buffer = record { answer = only 1; buffer = buffer }
 
 pub record Reads {A : Type 0} (Valid : A → Type 0) (text : A → List ℕ) (look : A → Document → Told)
     (D : Document) (bytes buffer : List ℕ) (answer : Reading) (written : List ℕ) : Type 0 where
   pub reads : Says Valid text bytes
-  pub answers : answer ≡ asked look reads D buffer .answer
+  pub answers : readingAnswer answer ≡ asked look reads D buffer .answer
   pub writes : written ≡ asked look reads D buffer .buffer
 
 abbrev pub ReadsKeys : Document → List ℕ → List ℕ → Reading → List ℕ → Type 0

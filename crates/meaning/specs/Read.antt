@@ -12,8 +12,7 @@ use Rattle.meaning.specs.Places.{valuesOf, childrenOf, elementsOf, Docum
 use Rattle.meaning.specs.Judge.{Found, found, unknown, find}
 use Rattle.meaning.specs.Text.{idText, hex, plainText, over}
 use Rattle.meaning.specs.Valid.{ValidId, ValidKey}
-use Rattle.meaning.specs.declared.Reading.{Reading}
-use Rattle.meaning.specs.declared.Reading.the-variants as G
+use Rattle.meaning.specs.Answers.{Answer, done, only, short}
 
 -- A read's way, behind its first key: the place itself, or a step further.
 pub data Trail : Type 0 where
@@ -136,12 +135,12 @@ nthElement n w D = atPlace (λ c. nthText n (presentIds (elementsOf c))) (seek w
 
 -- what a read comes to: 14, 13 with the bytes needed, or the text at the buffer's start
 pub record ReadOutcome : Type 0 where
-  pub answer : Reading
+  pub answer : Answer
   pub buffer : List ℕ
 
 unfoldable pub answerRead : Told → List ℕ → ReadOutcome
-answerRead notThere buffer = record { answer = G.NotThere; buffer = buffer }
+answerRead notThere buffer = record { answer = only 14; buffer = buffer }
 answerRead (told t) buffer =
     cond (ltb (length buffer) (length t))
-    (record { answer = G.ShortBuffer (length t); buffer = buffer })
-    (record { answer = G.Written (length t); buffer = over t buffer })
+    (record { answer = short (length t); buffer = buffer })
+    (record { answer = done 0 0 (length t); buffer = over t buffer })

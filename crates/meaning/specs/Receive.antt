@@ -12,8 +12,7 @@ use Rattle.meaning.specs.Ways.{Operation}
 use Rattle.meaning.specs.Apply.{apply, emptyDocument}
 use Rattle.meaning.specs.Limits.{fits}
 use Rattle.meaning.specs.Judge.{notAbove, repeated, ownDepsBehind, astray, downward}
-use Rattle.meaning.specs.declared.Receipt.{Receipt}
-use Rattle.meaning.specs.declared.Receipt.the-variants as R
+use Rattle.meaning.specs.Answers.{Answer, done, only}
 
 -- What a terminal keeps: the document, and the waiting messages by ascending id.
 pub record Terminal : Type 0 where
@@ -80,45 +79,45 @@ waits i [] = false
 waits i (o ∷ os) = eqb i (o .id) || waits i os
 
 pub data Verdict : Type 0 where
-  refused : Receipt → Verdict
+  refused : Answer → Verdict
   kept taken : Verdict
 
 -- ready: 8, 9, 10, else it is applied
 unfoldable pub judgeReady : Operation → Document → Verdict
 judgeReady o D =
-    cond (astray D o) (refused R.NoElement)
-    (cond (downward o) (refused R.NotSmaller)
-    (cond (fits (apply o D)) taken (refused R.NoRoom)))
+    cond (astray D o) (refused (only 8))
+    (cond (downward o) (refused (only 9))
+    (cond (fits (apply o D)) taken (refused (only 10))))
 
 -- not ready: 6, 7, else it waits
 unfoldable pub judgeEarly : Operation → List Operation → Verdict
-judgeEarly o os = cond (waits (o .id) os) (refused R.WaitsAlready) (cond (leb 64 (length os)) (refused R.WaitingFull) kept)
+judgeEarly o os = cond (waits (o .id) os) (refused (only 6)) (cond (leb 64 (length os)) (refused (only 7)) kept)
 
 -- 2, 3, 4; then by readiness
 unfoldable pub judge : Operation → Terminal → Verdict
 judge o T =
     let D = T .document in
-    cond (notAbove o) (refused R.Counter)
-    (cond (repeated (D .seen) o) (refused R.Repeat)
-    (cond (ownDepsBehind (D .seen) o) (refused R.OwnDeps)
+    cond (notAbove o) (refused (only 2))
+    (cond (repeated (D .seen) o) (refused (only 3))
+    (cond (ownDepsBehind (D .seen) o) (refused (only 4))
     (cond (readyIn D o) (judgeReady o D) (judgeEarly o (T .waiting)))))
 
 -- what receiving comes to: the answer, the terminal, and the operations applied in their order
 pub record Received : Type 0 where
-  pub answer : Receipt
+  pub answer : Answer
   pub terminal : Terminal
   pub applied : List Operation
 
-abbrev pub refusing : Receipt → Terminal → Received
+abbrev pub refusing : Answer → Terminal → Received
 refusing a T = record { answer = a; terminal = T; applied = [] }
 
 unfoldable pub finish : Operation → Terminal → Verdict → Received
 finish o T (refused a) = refusing a T
 finish o T kept =
-    record { answer = R.Waiting; terminal = record { document = T .document; waiting = put (λ o. o .id) o (T .waiting) }; applied = [] }
+    record { answer = only 5; terminal = record { document = T .document; waiting = put (λ o. o .id) o (T .waiting) }; applied = [] }
 finish o T taken =
     let r = settle (record { document = apply o (T .document); waiting = T .waiting }) in
-    record { answer = R.Applied (suc (length (r .applied))) (r .dropped); terminal = r .terminal; applied = o ∷ r .applied }
+    record { answer = done (suc (length (r .applied))) (r .dropped) 0; terminal = r .terminal; applied = o ∷ r .applied }
 
 -- an operation whose message is in the layout is received
 unfoldable pub receive : Operation → Terminal → Received

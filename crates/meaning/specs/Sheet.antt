@@ -8,8 +8,7 @@ use lib.ListN.{length}
 use Rattle.meaning.specs.Ascii.{ascii}
 use Rattle.meaning.specs.Places.{Value, Place, place, Children, childless, child, Elements, empty, element, Document}
 use Rattle.meaning.specs.Text.{decimal, idText, countersText, hex, plainText, over}
-use Rattle.meaning.specs.declared.Saved.{Saved}
-use Rattle.meaning.specs.declared.Saved.the-variants as S
+use Rattle.meaning.specs.Answers.{Answer, done, short}
 
 -- where a place hangs: under the parent's map by a key, or under its list by an element id
 pub data Spot : Type 0 where
@@ -93,11 +92,11 @@ sheet D = linesText (sheetLines D)
 
 -- what saving comes to: 13 with the bytes needed and nothing written, or the sheet at the buffer's start
 pub record SaveOutcome : Type 0 where
-  pub answer : Saved
+  pub answer : Answer
   pub buffer : List ℕ
 
 unfoldable pub save : Document → List ℕ → SaveOutcome
 save D buffer =
     cond (ltb (length buffer) (length (sheet D)))
-    (record { answer = S.ShortBuffer (length (sheet D)); buffer = buffer })
-    (record { answer = S.Written (length (sheet D)); buffer = over (sheet D) buffer })
+    (record { answer = short (length (sheet D)); buffer = buffer })
+    (record { answer = done 0 0 (length (sheet D)); buffer = over (sheet D) buffer })

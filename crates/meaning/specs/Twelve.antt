@@ -3,7 +3,7 @@
 -- Assumes nothing.
 use Prim.Native.Nat.{ℕ, zero, suc, _<_}
 use native.Mathlib.Omega.{arith}
-use mathlib.Core.Path.{_≡_, refl, ap}
+use mathlib.Core.Path.{_≡_, refl, sym, ap, _∙_}
 use mathlib.Core.Bool.{Bool, true, false, _&&_, false≢true}
 use mathlib.Core.List.{List, [], _∷_, map, nil≢cons, head-eq-of-cons-eq, tail-eq-of-cons-eq}
 use lib.Dec.{leb, ltb, eqb}
@@ -21,7 +21,7 @@ use Rattle.meaning.specs.Apply.{mark, dropValues, addValue, onMap, onLis
 use Rattle.meaning.specs.Apply.{passing, run, change, apply}
 use Rattle.meaning.specs.Limits.{size, within, fits}
 use Rattle.meaning.specs.Judge.{notAbove, repeated, ownDepsBehind, look, find, elementsFound, astray, upward, downward}
-use Rattle.meaning.specs.Answers.{Answer, receiptAnswer}
+use Rattle.meaning.specs.Answers.{Answer, receiptAnswer, receiptOf}
 use Rattle.meaning.specs.Members.{All}
 use Rattle.meaning.specs.Receive.{Terminal, newTerminal, receive, dead, able, first, without, onward, settleIn, settle}
 use Rattle.meaning.specs.Receive.{waits, judgeReady, judgeEarly, judge, finish}
@@ -139,35 +139,39 @@ valid o e =
 
 -- The play of some operations: their validity and texts, the answers, the terminal at the end.
 
+-- `answers` are those of the meaning, `cases` those of the enum's cases that their numbers name
 pub record Play : Type 0 where
   pub valid : Bool
   pub messages : List (List ℕ)
   pub answers : List Answer
+  pub cases : List Answer
   pub exit : Terminal
 
 play : List Operation → Terminal → Play
-play [] T = record { valid = true; messages = []; answers = []; exit = T }
+play [] T = record { valid = true; messages = []; answers = []; cases = []; exit = T }
 play (o ∷ os) T =
     let r = receive o T in
     let p = play os (r .terminal) in
     record {
       valid = ok o && p .valid;
       messages = message o ∷ p .messages;
-      answers = receiptAnswer (r .answer) ∷ p .answers;
+      answers = r .answer ∷ p .answers;
+      cases = receiptAnswer (receiptOf (r .answer)) ∷ p .cases;
       exit = p .exit;
     }
 
-played : (os : List Operation) (T : Terminal) → play os T .valid ≡ true
+played : (os : List Operation) (T : Terminal) → play os T .valid ≡ true → play os T .cases ≡ play os T .answers
     → Answered T (play os T .messages) (play os T .answers) (play os T .exit)
 unfolding play
-played [] T e = refl
-played (o ∷ os) T e =
-    let t = both (ok o) _ e in (
-      receive o T .answer,
+played [] T e c = refl
+played (o ∷ os) T e c =
+    let t = both (ok o) _ e in
+    let same = head-eq-of-cons-eq c in (
+      receiptOf (receive o T .answer),
       receive o T .terminal,
-      record { reads = says o (valid o (t .0)) refl; answers = refl; leaves = refl },
-      refl,
-      played os (receive o T .terminal) (t .1),
+      record { reads = says o (valid o (t .0)) refl; answers = same; leaves = refl },
+      same,
+      played os (receive o T .terminal) (t .1) (tail-eq-of-cons-eq c),
     )
 
 -- what a row of the table says, and what the play shows of it
@@ -175,11 +179,19 @@ record Row : Type 0 where
   valid : Bool
   messages : List (List ℕ)
   answers : List Answer
+  cases : List Answer
   sheet : List ℕ
   waiting : List (List ℕ)
 
 abbrev wanted : Example → Row
-wanted e = record { valid = true; messages = e .messages; answers = e .answers; sheet = e .sheet; waiting = e .waiting }
+wanted e = record {
+  valid = true;
+  messages = e .messages;
+  answers = e .answers;
+  cases = e .answers;
+  sheet = e .sheet;
+  waiting = e .waiting;
+}
 
 abbrev shown : List Operation → Row
 shown os =
@@ -188,6 +200,7 @@ shown os =
       valid = p .valid;
       messages = p .messages;
       answers = p .answers;
+      cases = p .cases;
       sheet = sheet (p .exit .document);
       waiting = map message (p .exit .waiting);
     }
@@ -195,7 +208,9 @@ shown os =
 holds : (e : Example) (os : List Operation) → shown os ≡ wanted e → Holds e
 holds e os s = record {
   exit = play os newTerminal .exit;
-  answered = rw (ap (λ r. r .answers) s) at (rw (ap (λ r. r .messages) s) at (played os newTerminal (ap (λ r. r .valid) s)));
+  answered =
+      rw (ap (λ r. r .answers) s) at (rw (ap (λ r. r .messages) s) at
+      (played os newTerminal (ap (λ r. r .valid) s) (ap (λ r. r .cases) s ∙ sym (ap (λ r. r .answers) s))));
   saves = ap (λ r. r .sheet) s;
   waits = ap (λ r. r .waiting) s;
 }
@@ -282,7 +297,7 @@ plays =
     []
 
 computed : map shown plays ≡ map wanted table
-unfolding play ok okId okKey okPlain okAssigned okPrev okWay okEdit okCounters
+unfolding play receiptOf ok okId okKey okPlain okAssigned okPrev okWay okEdit okCounters
     covered atMost allBelow ready keep smaller greater put order steps deletes makes clearMarks clearValues clear
     mark dropValues addValue onMap onList give atKey atElement stepOn stepFrom insertAfter passing run change apply
     size within fits notAbove repeated ownDepsBehind look find elementsFound astray upward downward

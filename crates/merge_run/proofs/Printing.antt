@@ -10,6 +10,7 @@ use Rattle.meaning.specs.Sheet.{sheet, save}
 use Rattle.meaning.specs.Promises.{Saves, Merges}
 use Rattle.meaning.specs.declared.Saved.{Saved}
 use Rattle.meaning.specs.declared.Saved.the-variants.{Written, ShortBuffer}
+use Rattle.theorems.specs.Numbered.{saved-settled}
 use Rattle.theorems.specs.Sizes.{sheet-short}
 use Rattle.tables.specs.Words.{Tables}
 use Rattle.tables.specs.Holding.{four}
@@ -39,7 +40,7 @@ module _ {input waiting h k m v : List ℕ} {s : State} {before after : List ℕ
       let D = p .exit .document in
       let d = p .keeps .document in
       let l : length (sheet D) ≤ length before = omega (arith, sheet-short D (d .sound) (d .limits)) in
-      rw (le-ltb (length before) (length (sheet D)) l) at (saved .answers)
+      saved-settled answer (Written (length (sheet D))) (rw (le-ltb (length before) (length (sheet D)) l) at (saved .answers))
 
   pub fits : (n : ℕ) → answer ≡ Written n → n ≤ length before
   fits n e =

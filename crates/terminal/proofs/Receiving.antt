@@ -13,6 +13,7 @@ use Rattle.meaning.specs.Limits.{fits}
 use Rattle.meaning.specs.Ways.{Operation}
 use Rattle.meaning.specs.Valid.{ValidOperation}
 use Rattle.meaning.specs.Message.{message}
+use Rattle.meaning.specs.Answers.{only, receiptAnswer}
 use Rattle.meaning.specs.Judge.{notAbove, repeated, ownDepsBehind, astray, downward}
 use Rattle.meaning.specs.Receive.{Terminal, readyIn, waits, Verdict, refused, kept, taken, judgeReady}
 use Rattle.meaning.specs.Receive.{judgeEarly, judge, finish, receive, settle}
@@ -21,7 +22,6 @@ use Rattle.meaning.specs.declared.Receipt.{Receipt}
 use Rattle.meaning.specs.declared.Receipt.the-variants as R
 use Rattle.theorems.specs.Invariant.{Sent, Steady}
 use Rattle.theorems.specs.Members.{all-put}
-use Rattle.theorems.specs.Verdicts.{Refusal}
 use Rattle.tables.specs.Words.{Tables}
 use Rattle.message.specs.Means.{Means}
 use Rattle.message.specs.Promises.{Answers, ReadsMessage}
@@ -56,16 +56,16 @@ keeps-steady T t s X K = record {
 abbrev sort : Verdict → Judgement → Verdict
 sort e J.Taken = taken
 sort e J.Early = e
-sort e J.Counter = refused R.Counter
-sort e J.Repeat = refused R.Repeat
-sort e J.OwnDeps = refused R.OwnDeps
-sort e J.NoElement = refused R.NoElement
-sort e J.NotSmaller = refused R.NotSmaller
-sort e J.NoRoom = refused R.NoRoom
+sort e J.Counter = refused (only 2)
+sort e J.Repeat = refused (only 3)
+sort e J.OwnDeps = refused (only 4)
+sort e J.NoElement = refused (only 8)
+sort e J.NotSmaller = refused (only 9)
+sort e J.NoRoom = refused (only 10)
 
 sorted : (n r c d a w f : Bool) (e : Verdict)
-    → cond n (refused R.Counter) (cond r (refused R.Repeat) (cond c (refused R.OwnDeps)
-    (cond d (cond a (refused R.NoElement) (cond w (refused R.NotSmaller) (cond f taken (refused R.NoRoom)))) e)))
+    → cond n (refused (only 2)) (cond r (refused (only 3)) (cond c (refused (only 4))
+    (cond d (cond a (refused (only 8)) (cond w (refused (only 9)) (cond f taken (refused (only 10))))) e)))
     ≡ sort e (cond n J.Counter (by r c d a w f))
 sorted true r c d a w f e = refl
 sorted false true c d a w f e = refl
@@ -96,7 +96,7 @@ sort-early e J.NoElement t = absurd (false≢true t)
 sort-early e J.NotSmaller t = absurd (false≢true t)
 sort-early e J.NoRoom t = absurd (false≢true t)
 
-sort-refused : (e : Verdict) (v : Judgement) → isTaken v ≡ false → isEarly v ≡ false → sort e v ≡ refused (refusalOf v)
+sort-refused : (e : Verdict) (v : Judgement) → isTaken v ≡ false → isEarly v ≡ false → sort e v ≡ refused (receiptAnswer (refusalOf v))
 sort-refused e J.Taken t u = absurd (true≢false t)
 sort-refused e J.Early t u = absurd (true≢false u)
 sort-refused e J.Counter t u = refl
@@ -228,9 +228,9 @@ module _ (T : Tables) (t : List ℕ) (s : State) (bytes : List ℕ) (m : Message
       unfolding receive finish
       receives-refused y a q = record {
         receives = λ X K. reading X _ U t ok (λ x v e.
-            let j : judge x X ≡ refused (refusalOf (o .answer)) =
+            let j : judge x X ≡ refused (receiptAnswer (refusalOf (o .answer))) =
             judge-sorted x X ∙ (ap (λ z. sort (judgeEarly x (X .waiting)) z) (sym (verdict-is X K x v e))
             ∙ sort-refused (judgeEarly x (X .waiting)) (o .answer) no y) in
-            rw (j, A .refuses no .0) (record { answers = q; keeps = K }));
+            rw (j, A .refuses no .0) (record { answers = ap receiptAnswer q; keeps = K }));
         stays = λ u. (A .refuses no .0, refl, refl);
       }

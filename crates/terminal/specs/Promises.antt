@@ -4,12 +4,12 @@
 use Prim.Native.Nat.{ℕ}
 use mathlib.Core.Path.{_≡_}
 use mathlib.Core.List.{List, []}
+use Rattle.meaning.specs.Answers.{receiptAnswer, Refusal}
 use Rattle.meaning.specs.Ways.{Operation}
 use Rattle.meaning.specs.Receive.{Terminal, newTerminal, judgeEarly, finish}
 use Rattle.meaning.specs.Receive as Meaning
 use Rattle.meaning.specs.Promises.{Receives}
 use Rattle.theorems.specs.Invariant.{Sent}
-use Rattle.theorems.specs.Verdicts.{Refusal}
 use Rattle.tables.specs.Words.{Tables}
 use Rattle.tables.specs.Holding.{headsRoom, keysRoom, marksRoom, valuesRoom, four}
 use Rattle.words.specs.Words.{pad}
@@ -27,7 +27,7 @@ Empties s =
 
 -- the answer, and the terminal that is kept
 pub record Comes (U : Tables) (t′ : List ℕ) (r : Received) (e : Meaning.Received) : Type 0 where
-  pub answers : r .answer ≡ e .answer
+  pub answers : receiptAnswer (r .answer) ≡ e .answer
   pub keeps : Keeps U t′ (r .state) (e .terminal)
 
 -- an operation that comes too early
@@ -35,7 +35,7 @@ pub record Awaits (t : List ℕ) (s : State) (op : M.Operation) (r : Received) (
   pub waits :
       (T : Tables) (X : Terminal) (o : Operation) → Keeps T t s X → Means op o → Sent o
       → Comes T t′ r (finish o X (judgeEarly o (X .waiting)))
-  pub stays : Refusal (r .answer) → (t′ ≡ t) × (r .state ≡ s)
+  pub stays : Refusal (receiptAnswer (r .answer)) → (t′ ≡ t) × (r .state ≡ s)
 
 -- a message is received, and the terminal that it leaves is kept
 pub record Kept (X : Terminal) (bytes : List ℕ) (r : Received) (U : Tables) (t′ : List ℕ) : Type 0 where
@@ -45,4 +45,4 @@ pub record Kept (X : Terminal) (bytes : List ℕ) (r : Received) (U : Tables) (t
 
 pub record Receiving (T : Tables) (t : List ℕ) (s : State) (bytes : List ℕ) (r : Received) (U : Tables) (t′ : List ℕ) : Type 0 where
   pub receives : (X : Terminal) → Keeps T t s X → Kept X bytes r U t′
-  pub stays : Refusal (r .answer) → (U ≡ T) × (t′ ≡ t) × (r .state ≡ s)
+  pub stays : Refusal (receiptAnswer (r .answer)) → (U ≡ T) × (t′ ≡ t) × (r .state ≡ s)

@@ -7,19 +7,21 @@ use Rattle.meaning.specs.Places.{Document}
 use Rattle.meaning.specs.Valid.{ValidOperation}
 use Rattle.meaning.specs.Message.{message}
 use Rattle.meaning.specs.Receive.{Terminal, newTerminal, receive}
+use Rattle.meaning.specs.Answers.{done, badLine}
 use Rattle.meaning.specs.Edit.{edit}
 use Rattle.meaning.specs.Sheet.{sheet}
 use Rattle.meaning.specs.Read.{ValidPlaceWay, placeWayText, ValidKeysWay, keysWayText, elementWayText}
 use Rattle.meaning.specs.Read.{Told, keys, values, nthElement, answerRead}
 use Rattle.meaning.specs.Stream.{messages}
-use Rattle.meaning.specs.Promises.{Says, says, saysNothing, received, Receives, Lines, ValidLines, linesOf, edited, Edits, Saves, Loads}
+use Rattle.meaning.specs.Promises.{Says, says, saysNothing, received, Receives, Lines, ValidLines, linesOf, edited, Edits, Saves}
+use Rattle.meaning.specs.Promises.{SheetSays, accepted, broken, loaded, Loads}
 use Rattle.meaning.specs.Promises.{asked, Reads, ReadsKeys, ReadsValues, ReadsElement, ReceivesAll, Merges}
 use Rattle.meaning.specs.declared.Receipt.{Receipt}
 use Rattle.meaning.specs.declared.Edited.{Edited}
 use Rattle.meaning.specs.declared.Saved.{Saved}
 use Rattle.meaning.specs.declared.Loaded.{Loaded}
-use Rattle.meaning.specs.declared.Loaded.the-variants as L
 use Rattle.meaning.specs.declared.Reading.{Reading}
+use Rattle.theorems.specs.Numbered.{receipt-settled, edited-settled, saved-settled, loaded-settled, reading-settled}
 use Rattle.theorems.specs.Spelling.{message-once, edit-once, placeWay-once, elementWay-once, keysWay-once}
 use Rattle.theorems.specs.LoadVerdict.{accepted-once, accepted-not-broken, broken-once}
 
@@ -38,8 +40,10 @@ received-once (saysNothing n) (saysNothing m) T = refl
 pub receives-once : (T : Terminal) (bytes : List ℕ) (a b : Receipt) (U V′ : Terminal) → Receives T bytes a U → Receives T bytes b V′
     → (a ≡ b) × (U ≡ V′)
 receives-once T bytes a b U V′ p q =
-    let z = received-once (p .reads) (q .reads) T in
-    (p .answers ∙ (ap (λ r. r .answer) z ∙ sym (q .answers)), p .leaves ∙ (ap (λ r. r .terminal) z ∙ sym (q .leaves)))
+    let z = received-once (p .reads) (q .reads) T in (
+      receipt-settled a b (p .answers ∙ (ap (λ r. r .answer) z ∙ sym (q .answers))),
+      p .leaves ∙ (ap (λ r. r .terminal) z ∙ sym (q .leaves)),
+    )
 
 -- A local edit.
 
@@ -59,7 +63,7 @@ pub edits-once : (T : Terminal) (r : ℕ) (bytes buffer : List ℕ) (a b : Edite
     → Edits T r bytes buffer a U x → Edits T r bytes buffer b V′ y → (a ≡ b) × (U ≡ V′) × (x ≡ y)
 edits-once T r bytes buffer a b U V′ x y p q =
     let z = edited-once r (p .reads) (q .reads) T buffer in (
-      p .answers ∙ (ap (λ o. o .answer) z ∙ sym (q .answers)),
+      edited-settled a b (p .answers ∙ (ap (λ o. o .answer) z ∙ sym (q .answers))),
       p .leaves ∙ (ap (λ o. o .terminal) z ∙ sym (q .leaves)),
       p .writes ∙ (ap (λ o. o .buffer) z ∙ sym (q .writes)),
     )
@@ -67,16 +71,22 @@ edits-once T r bytes buffer a b U V′ x y p q =
 -- Saving and loading.
 
 pub saves-once : (D : Document) (buffer : List ℕ) (a b : Saved) (x y : List ℕ) → Saves D buffer a x → Saves D buffer b y → (a ≡ b) × (x ≡ y)
-saves-once D buffer a b x y p q = (p .answers ∙ sym (q .answers), p .writes ∙ sym (q .writes))
+saves-once D buffer a b x y p q = (saved-settled a b (p .answers ∙ sym (q .answers)), p .writes ∙ sym (q .writes))
+
+loaded-once : {bytes : List ℕ} (p q : SheetSays bytes) (T : Terminal) → loaded p T ≡ loaded q T
+loaded-once {bytes} (accepted D p) (accepted E q) T =
+    ap (λ D. record { answer = done 0 0 0; terminal = record { document = D; waiting = [] } }) (accepted-once bytes D E p q)
+loaded-once {bytes} (accepted D p) (broken n q) T = absurd (accepted-not-broken bytes D n p q)
+loaded-once {bytes} (broken n p) (accepted D q) T = absurd (accepted-not-broken bytes D n q p)
+loaded-once {bytes} (broken n p) (broken m q) T = ap (λ n. record { answer = badLine n; terminal = T }) (broken-once bytes n m p q)
 
 pub loads-once : (T : Terminal) (bytes : List ℕ) (a b : Loaded) (U V′ : Terminal) → Loads T bytes a U → Loads T bytes b V′
     → (a ≡ b) × (U ≡ V′)
-loads-once T bytes L.Taken L.Taken U V′ p q =
-    let z = accepted-once bytes (p .0) (q .0) (p .1) (q .1) in
-    (refl, p .2 ∙ (ap (λ D. record { document = D; waiting = [] }) z ∙ sym (q .2)))
-loads-once T bytes L.Taken (L.BadLine n) U V′ p q = absurd (accepted-not-broken bytes (p .0) n (p .1) (q .0))
-loads-once T bytes (L.BadLine n) L.Taken U V′ p q = absurd (accepted-not-broken bytes (q .0) n (q .1) (p .0))
-loads-once T bytes (L.BadLine n) (L.BadLine m) U V′ p q = (ap L.BadLine (broken-once bytes n m (p .0) (q .0)), p .1 ∙ sym (q .1))
+loads-once T bytes a b U V′ p q =
+    let z = loaded-once (p .reads) (q .reads) T in (
+      loaded-settled a b (p .answers ∙ (ap (λ o. o .answer) z ∙ sym (q .answers))),
+      p .leaves ∙ (ap (λ o. o .terminal) z ∙ sym (q .leaves)),
+    )
 
 -- The three reads.
 
@@ -91,8 +101,10 @@ module _ {A : Type 0} (Valid : A → Type 0) (text : A → List ℕ) (one : OneS
   reads-once : (D : Document) (bytes buffer : List ℕ) (a b : Reading) (x y : List ℕ) → Reads Valid text look D bytes buffer a x
       → Reads Valid text look D bytes buffer b y → (a ≡ b) × (x ≡ y)
   reads-once D bytes buffer a b x y p q =
-      let z = asked-once (p .reads) (q .reads) D buffer in
-      (p .answers ∙ (ap (λ o. o .answer) z ∙ sym (q .answers)), p .writes ∙ (ap (λ o. o .buffer) z ∙ sym (q .writes)))
+      let z = asked-once (p .reads) (q .reads) D buffer in (
+        reading-settled a b (p .answers ∙ (ap (λ o. o .answer) z ∙ sym (q .answers))),
+        p .writes ∙ (ap (λ o. o .buffer) z ∙ sym (q .writes)),
+      )
 
 pub keys-once : (D : Document) (bytes buffer : List ℕ) (a b : Reading) (x y : List ℕ) → ReadsKeys D bytes buffer a x
     → ReadsKeys D bytes buffer b y → (a ≡ b) × (x ≡ y)

@@ -22,11 +22,11 @@ use Rattle.meaning.specs.Receive.{Terminal, newTerminal, dead, without, settle,
 use Rattle.meaning.specs.Edit.{EditVerdict, spent, editOf, judgeEdit, finishEdit, edit}
 use Rattle.meaning.specs.Message.{message}
 use Rattle.meaning.specs.Load.{Accepted}
-use Rattle.meaning.specs.Promises.{Says, says, saysNothing, received, Receives, ReceivesAll, ValidLines, linesOf, edited, Edits, Loads}
+use Rattle.meaning.specs.Promises.{Says, says, saysNothing, received, Receives, ReceivesAll, ValidLines, linesOf, edited, Edits}
+use Rattle.meaning.specs.Promises.{SheetSays, accepted, broken, loaded, Loads}
 use Rattle.meaning.specs.declared.Receipt.{Receipt}
 use Rattle.meaning.specs.declared.Edited.{Edited}
 use Rattle.meaning.specs.declared.Loaded.{Loaded}
-use Rattle.meaning.specs.declared.Loaded.the-variants as L
 use Rattle.theorems.specs.Members.{all-keep, all-put, keep-length, put-length, asc-keep, asc-put}
 use Rattle.theorems.specs.Tests.{living}
 use Rattle.theorems.specs.Edits.{edit-valid, edit-new}
@@ -155,5 +155,8 @@ steady-edits T r bytes buffer answer exit written p s = rw (p .leaves) (go (p .r
 -- loading, once it is known that an accepted sheet says a sound document within the limits
 pub steady-loads : (T : Terminal) (bytes : List ℕ) (answer : Loaded) (exit : Terminal)
     → ((D : Document) → Accepted bytes D → Sound D × (fits D ≡ true)) → Loads T bytes answer exit → Steady T → Steady exit
-steady-loads T bytes L.Taken exit k p s = rw (p .2) (steady-loaded (p .0) (k (p .0) (p .1) .0) (k (p .0) (p .1) .1))
-steady-loads T bytes (L.BadLine n) exit k p s = rw (p .1) s
+steady-loads T bytes answer exit k p s = rw (p .leaves) (go (p .reads))
+  where
+    go : (m : SheetSays bytes) → Steady (loaded m T .terminal)
+    go (accepted D a) = steady-loaded D (k D a .0) (k D a .1)
+    go (broken n b) = s

@@ -50,4 +50,5 @@ pub mod AtEnd
 pub mod Taken
 pub mod Accepting
 pub mod Sizes
+pub mod Numbered
 pub mod Determined

@@ -16,10 +16,7 @@ use Rattle.meaning.specs.Receive.{Terminal, readyIn, dead, waits, Verdict, refu
 use Rattle.meaning.specs.Message.{message}
 use Rattle.meaning.specs.Edit.{EditVerdict, spent, judgeEdit}
 use Rattle.meaning.specs.Edit as Edit
-use Rattle.meaning.specs.declared.Receipt.{Receipt}
-use Rattle.meaning.specs.declared.Receipt.the-variants as R
-use Rattle.meaning.specs.declared.Edited.{Edited}
-use Rattle.meaning.specs.declared.Edited.the-variants as E
+use Rattle.meaning.specs.Answers.{Answer, only, short, Refusal}
 use Rattle.theorems.specs.Tests.{alive-now, early-alive}
 
 -- an operation that isn't a repeat has its counter above its terminal's seen entry
@@ -55,22 +52,8 @@ takes-alive o T t = alive-now (T .document) o (t .admitted .new) (t .admitted .o
 pub keeps-alive : (o : Operation) (T : Terminal) → Keeps o T → dead (T .document) o ≡ false
 keeps-alive o T k = early-alive (T .document) o (k .admitted .new) (k .admitted .own) (k .early)
 
--- an answer other than 0 and 5
-abbrev pub Refusal : Receipt → Type 0
-Refusal (R.Applied a d) = ⊥
-Refusal R.Layout = Unit {0}
-Refusal R.Counter = Unit {0}
-Refusal R.Repeat = Unit {0}
-Refusal R.OwnDeps = Unit {0}
-Refusal R.Waiting = ⊥
-Refusal R.WaitsAlready = Unit {0}
-Refusal R.WaitingFull = Unit {0}
-Refusal R.NoElement = Unit {0}
-Refusal R.NotSmaller = Unit {0}
-Refusal R.NoRoom = Unit {0}
-
 pub data Judged (o : Operation) (T : Terminal) : Verdict → Type 0 where
-  refuses : (a : Receipt) → Refusal a → Judged o T (refused a)
+  refuses : (a : Answer) → Refusal a → Judged o T (refused a)
   keeps : Keeps o T → Judged o T kept
   takes : Takes o T → Judged o T taken
 
@@ -79,7 +62,7 @@ unfolding judgeReady
 judged-ready o T p r = go (astray (T .document) o) refl (downward o) refl (fits (apply o (T .document))) refl
   where
     go : (a : Bool) → astray (T .document) o ≡ a → (b : Bool) → downward o ≡ b → (c : Bool) → fits (apply o (T .document)) ≡ c
-        → Judged o T (cond a (refused R.NoElement) (cond b (refused R.NotSmaller) (cond c taken (refused R.NoRoom))))
+        → Judged o T (cond a (refused (only 8)) (cond b (refused (only 9)) (cond c taken (refused (only 10)))))
     go true e b f c g = refuses _ tt
     go false e true f c g = refuses _ tt
     go false e false f true g = takes (record { admitted = p; ready = r; leads = e; smaller = f; room = g })
@@ -90,7 +73,7 @@ unfolding judgeEarly
 judged-early o T p r = go (waits (o .id) (T .waiting)) refl (leb 64 (length (T .waiting))) refl
   where
     go : (a : Bool) → waits (o .id) (T .waiting) ≡ a → (b : Bool) → leb 64 (length (T .waiting)) ≡ b
-        → Judged o T (cond a (refused R.WaitsAlready) (cond b (refused R.WaitingFull) kept))
+        → Judged o T (cond a (refused (only 6)) (cond b (refused (only 7)) kept))
     go true e b f = refuses _ tt
     go false e true f = refuses _ tt
     go false e false f = keeps (record { admitted = p; early = r; once = e; few = f })
@@ -103,7 +86,7 @@ judged o T =
   where
     go : (a : Bool) → notAbove o ≡ a → (b : Bool) → repeated (T .document .seen) o ≡ b → (c : Bool) → ownDepsBehind (T .document .seen) o ≡ c
         → (d : Bool) → readyIn (T .document) o ≡ d
-        → Judged o T (cond a (refused R.Counter) (cond b (refused R.Repeat) (cond c (refused R.OwnDeps)
+        → Judged o T (cond a (refused (only 2)) (cond b (refused (only 3)) (cond c (refused (only 4))
         (cond d (judgeReady o (T .document)) (judgeEarly o (T .waiting))))))
     go true e b f c g d h = refuses _ tt
     go false e true f c g d h = refuses _ tt
@@ -119,18 +102,8 @@ pub record TakesEdit (o : Operation) (T : Terminal) (n : ℕ) : Type 0 where
   pub room : fits (apply o (T .document)) ≡ true
   pub buffer : ltb n (length (message o)) ≡ false
 
--- an answer other than 0
-abbrev pub RefusalEdit : Edited → Type 0
-RefusalEdit (E.Applied a d w) = ⊥
-RefusalEdit E.Layout = Unit {0}
-RefusalEdit E.NoElement = Unit {0}
-RefusalEdit E.NotSmaller = Unit {0}
-RefusalEdit E.NoRoom = Unit {0}
-RefusalEdit E.LastCounter = Unit {0}
-RefusalEdit (E.ShortBuffer n) = Unit {0}
-
 pub data JudgedEdit (o : Operation) (T : Terminal) (n : ℕ) : EditVerdict → Type 0 where
-  refusesEdit : (a : Edited) → RefusalEdit a → JudgedEdit o T n (Edit.refused a)
+  refusesEdit : (a : Answer) → Refusal a → JudgedEdit o T n (Edit.refused a)
   takesEdit : TakesEdit o T n → JudgedEdit o T n Edit.taken
 
 pub judgedEdit : (o : Operation) (T : Terminal) (n : ℕ) → JudgedEdit o T n (judgeEdit o T n)
@@ -141,8 +114,8 @@ judgedEdit o T n =
   where
     go : (a : Bool) → spent (T .document .seen) ≡ a → (b : Bool) → astray (T .document) o ≡ b → (c : Bool) → downward o ≡ c
         → (d : Bool) → fits (apply o (T .document)) ≡ d → (x : Bool) → ltb n (length (message o)) ≡ x
-        → JudgedEdit o T n (cond a (Edit.refused E.LastCounter) (cond b (Edit.refused E.NoElement) (cond c (Edit.refused E.NotSmaller)
-        (cond d (cond x (Edit.refused (E.ShortBuffer (length (message o)))) Edit.taken) (Edit.refused E.NoRoom)))))
+        → JudgedEdit o T n (cond a (Edit.refused (only 11)) (cond b (Edit.refused (only 8)) (cond c (Edit.refused (only 9))
+        (cond d (cond x (Edit.refused (short (length (message o)))) Edit.taken) (Edit.refused (only 10))))))
     go true e b f c g d h x i = refusesEdit _ tt
     go false e true f c g d h x i = refusesEdit _ tt
     go false e false f true g d h x i = refusesEdit _ tt
