@@ -21,7 +21,7 @@ pub record Example : Type 0 where
   pub waiting : List (List ℕ)
 
 -- a message by its lines behind `op=1`
-abbrev m : String → String → List String → List ℕ
+abbrev pub m : String → String → List String → List ℕ
 m id deps lines = page ("op=1" ∷ id ∷ deps ∷ lines)
 
 -- applied, with nothing settled
@@ -29,23 +29,23 @@ abbrev applied : Answer
 applied = done 1 0 0
 
 -- the five messages of document 01
-abbrev m1 : List ℕ
+abbrev pub m1 : List ℕ
 m1 = m "id=1.1" "deps=0,0,0,0,0,0,0,0" ("at=73" ∷ "do=assign" ∷ "value=[" ∷ [])
 
-abbrev m2 : List ℕ
+abbrev pub m2 : List ℕ
 m2 = m "id=2.1" "deps=1,0,0,0,0,0,0,0" ("at=73[^" ∷ "do=insert" ∷ "value=s61" ∷ [])
 
-abbrev m3 : List ℕ
+abbrev pub m3 : List ℕ
 m3 = m "id=3.1" "deps=2,0,0,0,0,0,0,0" ("at=73[2.1" ∷ "do=insert" ∷ "value=s62" ∷ [])
 
-abbrev m4 : List ℕ
+abbrev pub m4 : List ℕ
 m4 = m "id=3.2" "deps=2,0,0,0,0,0,0,0" ("at=73[2.1" ∷ "do=insert" ∷ "value=s63" ∷ [])
 
-abbrev m5 : List ℕ
+abbrev pub m5 : List ℕ
 m5 = m "id=4.1" "deps=3,0,0,0,0,0,0,0" ("at=73[2.1" ∷ "do=delete" ∷ [])
 
 -- the sheet of document 01, letter by letter
-abbrev sheet1 : List ℕ
+abbrev pub sheet1 : List ℕ
 sheet1 =
     page ("sheet=1" ∷
     "seen=4,3,0,0,0,0,0,0" ∷
@@ -64,10 +64,10 @@ sheet1 =
     "end=4" ∷ [])
 
 -- two terminals assign at one key
-abbrev a1 : List ℕ
+abbrev pub a1 : List ℕ
 a1 = m "id=1.1" "deps=0,0,0,0,0,0,0,0" ("at=6d" ∷ "do=assign" ∷ "value=i1" ∷ [])
 
-abbrev a2 : List ℕ
+abbrev pub a2 : List ℕ
 a2 = m "id=1.2" "deps=0,0,0,0,0,0,0,0" ("at=6d" ∷ "do=assign" ∷ "value=i2" ∷ [])
 
 -- a map with one key
@@ -77,7 +77,7 @@ b1 = m "id=1.1" "deps=0,0,0,0,0,0,0,0" ("at=6d" ∷ "do=assign" ∷ "value={" �
 abbrev b2 : List ℕ
 b2 = m "id=2.1" "deps=1,0,0,0,0,0,0,0" ("at=6d{61" ∷ "do=assign" ∷ "value=i1" ∷ [])
 
-abbrev emptySheet : List ℕ
+abbrev pub emptySheet : List ℕ
 emptySheet = page ("sheet=1" ∷ "seen=0,0,0,0,0,0,0,0" ∷ "end=0" ∷ [])
 
 abbrev pub table : List Example

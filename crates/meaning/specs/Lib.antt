@@ -21,5 +21,8 @@ pub mod Sound
 pub mod Read
 pub mod Stream
 pub mod Promises
+pub mod Checked
 pub mod Examples
 pub mod Twelve
+pub mod Worked
+pub mod WorkedOut

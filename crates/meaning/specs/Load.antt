@@ -10,7 +10,7 @@ use lib.ListN.{length}
 use Rattle.meaning.specs.Ids.{counterOf, covered}
 use Rattle.meaning.specs.Places.{Value, before, order, Document}
 use Rattle.meaning.specs.Members.{Has, own, idOfValue}
-use Rattle.meaning.specs.Valid.{ValidCounters, ValidKey, ValidPlain}
+use Rattle.meaning.specs.Valid.{ValidCounters, ValidKey, ValidStored}
 use Rattle.meaning.specs.Sheet.{Spot, inMap, inList, Row, rowsOf, linesText, lineText}
 use Rattle.meaning.specs.Sheet.{Line, sheetLine, seenLine, placeLine, markLine, valueLine, endLine}
 
@@ -118,7 +118,7 @@ pub record MarkRule (s : List ℕ) (r : Row) (rs : List Row) (i : ℕ) : Type 0 
 
 pub record ValueRule (r : Row) (rs : List Row) (v : Value) : Type 0 where
   pub limit : valuesIn (r ∷ rs) < 256
-  pub valid : ValidPlain (v .val)
+  pub valid : ValidStored (v .val)
   pub ascends : (j : ℕ) → Has idOfValue j (r .values) → j < v .id
   pub marked : Has own (v .id) (r .marks)
 

@@ -14,7 +14,7 @@ use Rattle.meaning.specs.Edit.{EditOutcome, edit}
 use Rattle.meaning.specs.Sheet.{save, sheet}
 use Rattle.meaning.specs.Load.{Accepted, Broken}
 use Rattle.meaning.specs.Read.{ValidPlaceWay, placeWayText, ValidKeysWay, keysWayText, elementWayText}
-use Rattle.meaning.specs.Read.{Told, keys, values, nthElement, ReadOutcome, answerRead}
+use Rattle.meaning.specs.Read.{Finding, keys, values, nthElement, ReadOutcome, answerRead}
 use Rattle.meaning.specs.Stream.{messages}
 use Rattle.meaning.specs.Answers.{Answer, done, only, badLine}
 use Rattle.meaning.specs.Answers.{receiptAnswer, editedAnswer, savedAnswer, loadedAnswer, readingAnswer}
@@ -94,11 +94,11 @@ pub record Loads (T : Terminal) (bytes : List ℕ) (answer : Loaded) (exit : Ter
 -- The three reads.
 
 abbrev pub asked : {A : Type 0} {Valid : A → Type 0} {text : A → List ℕ} {bytes : List ℕ}
-    → (A → Document → Told) → Says Valid text bytes → Document → List ℕ → ReadOutcome
+    → (A → Document → Finding) → Says Valid text bytes → Document → List ℕ → ReadOutcome
 asked look (says w v e) D buffer = answerRead (look w D) buffer
 asked look (saysNothing n) D buffer = record { answer = only 1; buffer = buffer }
 
-pub record Reads {A : Type 0} (Valid : A → Type 0) (text : A → List ℕ) (look : A → Document → Told)
+pub record Reads {A : Type 0} (Valid : A → Type 0) (text : A → List ℕ) (look : A → Document → Finding)
     (D : Document) (bytes buffer : List ℕ) (answer : Reading) (written : List ℕ) : Type 0 where
   pub reads : Says Valid text bytes
   pub answers : readingAnswer answer ≡ asked look reads D buffer .answer

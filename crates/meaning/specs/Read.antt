@@ -10,7 +10,7 @@ use Rattle.meaning.specs.Places.{Value, before, equal, beyond, order, Pl
 use Rattle.meaning.specs.Places.{Children, childless, child, Elements, empty, element}
 use Rattle.meaning.specs.Places.{valuesOf, childrenOf, elementsOf, Document}
 use Rattle.meaning.specs.Judge.{Found, found, unknown, find}
-use Rattle.meaning.specs.Text.{idText, hex, plainText, over}
+use Rattle.meaning.specs.Text.{idText, hex, storedText, over}
 use Rattle.meaning.specs.Valid.{ValidId, ValidKey}
 use Rattle.meaning.specs.Answers.{Answer, done, only, short}
 
@@ -100,37 +100,39 @@ keysText (child k c ks) = cond (isMarked c) (hex k ++ (ascii "\n" ++ keysText ks
 
 unfoldable pub valuesText : List Value → List ℕ
 valuesText [] = []
-valuesText (v ∷ vs) = idText (v .id) ++ (ascii ":" ++ (plainText (v .val) ++ (ascii "\n" ++ valuesText vs)))
+valuesText (v ∷ vs) = idText (v .id) ++ (ascii ":" ++ (storedText (v .val) ++ (ascii "\n" ++ valuesText vs)))
 
 unfoldable pub presentIds : Elements → List ℕ
 presentIds empty = []
 presentIds (element i c es) = cond (isMarked c) (i ∷ presentIds es) (presentIds es)
 
--- there is such a thing, with this text, or it is 14
-pub data Told : Type 0 where
-  notThere : Told
-  told : List ℕ → Told
+-- what a read finds: a place on the way is unknown, or there is no such index; a place on the way has no marks; or there is such a thing,
+-- with this text
+pub data Finding : Type 0 where
+  notThere : Finding
+  unmarked : Finding
+  listed : List ℕ → Finding
 
 -- the n-th, from 1
-unfoldable pub nthText : ℕ → List ℕ → Told
+unfoldable pub nthText : ℕ → List ℕ → Finding
 nthText n [] = notThere
 nthText zero (i ∷ is) = notThere
-nthText (suc zero) (i ∷ is) = told (idText i ++ ascii "\n")
+nthText (suc zero) (i ∷ is) = listed (idText i ++ ascii "\n")
 nthText (suc (suc n)) (i ∷ is) = nthText (suc n) is
 
-unfoldable pub atPlace : (Place → Told) → Sought → Told
+unfoldable pub atPlace : (Place → Finding) → Sought → Finding
 atPlace f missing = notThere
-atPlace f withoutMarks = notThere
+atPlace f withoutMarks = unmarked
 atPlace f (present c) = f c
 
-unfoldable pub keys : KeysWay → Document → Told
-keys ofRoot D = told (keysText (D .root))
-keys (ofPlace w) D = atPlace (λ c. told (keysText (childrenOf c))) (seek w D)
+unfoldable pub keys : KeysWay → Document → Finding
+keys ofRoot D = listed (keysText (D .root))
+keys (ofPlace w) D = atPlace (λ c. listed (keysText (childrenOf c))) (seek w D)
 
-unfoldable pub values : PlaceWay → Document → Told
-values w D = atPlace (λ c. told (valuesText (valuesOf c))) (seek w D)
+unfoldable pub values : PlaceWay → Document → Finding
+values w D = atPlace (λ c. listed (valuesText (valuesOf c))) (seek w D)
 
-unfoldable pub nthElement : ℕ → PlaceWay → Document → Told
+unfoldable pub nthElement : ℕ → PlaceWay → Document → Finding
 nthElement n w D = atPlace (λ c. nthText n (presentIds (elementsOf c))) (seek w D)
 
 -- what a read comes to: 14, 13 with the bytes needed, or the text at the buffer's start
@@ -138,9 +140,10 @@ pub record ReadOutcome : Type 0 where
   pub answer : Answer
   pub buffer : List ℕ
 
-unfoldable pub answerRead : Told → List ℕ → ReadOutcome
+unfoldable pub answerRead : Finding → List ℕ → ReadOutcome
 answerRead notThere buffer = record { answer = only 14; buffer = buffer }
-answerRead (told t) buffer =
+answerRead unmarked buffer = record { answer = only 14; buffer = buffer }
+answerRead (listed t) buffer =
     cond (ltb (length buffer) (length t))
     (record { answer = short (length t); buffer = buffer })
     (record { answer = done 0 0 (length t); buffer = over t buffer })

@@ -7,7 +7,7 @@ use lib.Dec.{ltb}
 use lib.ListN.{length}
 use Rattle.meaning.specs.Ascii.{ascii}
 use Rattle.meaning.specs.Places.{Value, Place, place, Children, childless, child, Elements, empty, element, Document}
-use Rattle.meaning.specs.Text.{decimal, idText, countersText, hex, plainText, over}
+use Rattle.meaning.specs.Text.{decimal, idText, countersText, hex, storedText, over}
 use Rattle.meaning.specs.Answers.{Answer, done, short}
 
 -- where a place hangs: under the parent's map by a key, or under its list by an element id
@@ -69,7 +69,7 @@ lineText sheetLine = ascii "sheet=1\n"
 lineText (seenLine s) = ascii "seen=" ++ (countersText s ++ ascii "\n")
 lineText (placeLine n p m l) = ascii "place=" ++ (decimal n ++ (spotText p (flagsText m l) ++ ascii "\n"))
 lineText (markLine i) = ascii "mark=" ++ (idText i ++ ascii "\n")
-lineText (valueLine v) = ascii "value=" ++ (idText (v .id) ++ (ascii ":" ++ (plainText (v .val) ++ ascii "\n")))
+lineText (valueLine v) = ascii "value=" ++ (idText (v .id) ++ (ascii ":" ++ (storedText (v .val) ++ ascii "\n")))
 lineText (endLine n) = ascii "end=" ++ (decimal n ++ ascii "\n")
 
 unfoldable pub linesText : List Line → List ℕ

@@ -7,7 +7,7 @@ use mathlib.Core.Bool.{Bool, true}
 use mathlib.Core.List.{List}
 use Rattle.meaning.specs.Places.{Value, before, order, Place, place, Children, childless, child, Elements, empty, element, Document}
 use Rattle.meaning.specs.Members.{All, Has, Ascending, own, idOfValue}
-use Rattle.meaning.specs.Valid.{ValidCounters, ValidKey, ValidPlain}
+use Rattle.meaning.specs.Valid.{ValidCounters, ValidKey, ValidStored}
 use Rattle.meaning.specs.Sheet.{rowsOf}
 use Rattle.meaning.specs.Load.{Seen, times}
 
@@ -17,7 +17,7 @@ pub record Own (P : ℕ → Type 0) (ms : List ℕ) (vs : List Value) : Type 0 w
   pub values : Ascending idOfValue vs
   pub among : (j : ℕ) → Has own j ms → P j
   pub marked : (j : ℕ) → Has idOfValue j vs → Has own j ms
-  pub valid : All (λ v. ValidPlain (v .val)) vs
+  pub valid : All (λ v. ValidStored (v .val)) vs
 
 -- a branch with something under it has its flag
 abbrev pub Mapped : Children → Bool → Type 0

@@ -64,6 +64,10 @@ plainText (bool false) = ascii "f"
 plainText (integer n) = ascii "i" ++ integerText n
 plainText (string b) = ascii "s" ++ hex b
 
+-- a value as a place holds it: how it is listed and saved
+abbrev pub storedText : Plain → List ℕ
+storedText = plainText
+
 unfoldable pub assignedText : Assigned → List ℕ
 assignedText (plain v) = plainText v
 assignedText emptyMap = ascii "{"

@@ -1,20 +1,16 @@
 -- The twelve examples hold. What each message says is given as an operation; that the operation is valid, that its text is the message, and
 -- what the terminal answers and holds, is computed.
 -- Assumes nothing.
-use Prim.Native.Nat.{ℕ, zero, suc, _<_}
-use native.Mathlib.Omega.{arith}
+use Prim.Native.Nat.{ℕ}
 use mathlib.Core.Path.{_≡_, refl, sym, ap, _∙_}
-use mathlib.Core.Bool.{Bool, true, false, _&&_, false≢true}
+use mathlib.Core.Bool.{Bool, true, false, _&&_}
 use mathlib.Core.List.{List, [], _∷_, map, nil≢cons, head-eq-of-cons-eq, tail-eq-of-cons-eq}
-use lib.Dec.{leb, ltb, eqb}
-use lib.IntN.{pos, negsuc}
-use lib.ListN.{length}
-use borrow.Author.Tests.{leb-true, ltb-true, eqb-true}
+use lib.IntN.{pos}
 use Rattle.meaning.specs.Ascii.{ascii}
-use Rattle.meaning.specs.Ids.{idOf, counterOf, entry, covered, atMost, allBelow, ready}
+use Rattle.meaning.specs.Ids.{idOf, covered, atMost, allBelow, ready}
 use Rattle.meaning.specs.Sets.{keep, smaller, greater, put}
-use Rattle.meaning.specs.Places.{Plain, null, bool, integer, string, order}
-use Rattle.meaning.specs.Ways.{Assigned, plain, emptyMap, emptyList, Prev, head, after}
+use Rattle.meaning.specs.Places.{null, bool, integer, string, order}
+use Rattle.meaning.specs.Ways.{plain, emptyMap, emptyList, head, after}
 use Rattle.meaning.specs.Ways.{Way, assign, delete, insert, intoMap, intoList, Operation, steps, deletes, makes}
 use Rattle.meaning.specs.Clear.{clearMarks, clearValues, clear}
 use Rattle.meaning.specs.Apply.{mark, dropValues, addValue, onMap, onList, give, atKey, atElement, stepOn, stepFrom, insertAfter}
@@ -27,115 +23,11 @@ use Rattle.meaning.specs.Receive.{Terminal, newTerminal, receive, dead, 
 use Rattle.meaning.specs.Receive.{waits, judgeReady, judgeEarly, judge, finish}
 use Rattle.meaning.specs.Text.{digits, widthFrom, width, decimal, integerText, idText, commaText, countersText, hexDigit, hex}
 use Rattle.meaning.specs.Text.{plainText, assignedText}
-use Rattle.meaning.specs.Valid.{Bytes, ValidKey, ValidPlain, ValidAssigned, ValidWay, ValidOperation}
 use Rattle.meaning.specs.Message.{prevText, stepsText, doText, editText, message}
 use Rattle.meaning.specs.Sheet.{rows, rowsOf, spotText, lineText, linesText, rowLines, rowsLines, sheetLines, sheet}
 use Rattle.meaning.specs.Promises.{says}
+use Rattle.meaning.specs.Checked.{okId, okKey, okPlain, okAssigned, okPrev, okWay, okEdit, okCounters, ok, both, valid}
 use Rattle.meaning.specs.Examples.{Example, table, Answered, Holds, Claim}
-
--- A test of an operation's validity, and what it shows.
-
-okId : ℕ → Bool
-okId i = leb 1 (counterOf i) && leb (counterOf i) 4294967295
-
-okKey : List ℕ → Bool
-okKey k = leb (length k) 16 && allBelow 256 k
-
-okPlain : Plain → Bool
-okPlain null = true
-okPlain (bool b) = true
-okPlain (integer (pos n)) = leb n 9223372036854775807
-okPlain (integer (negsuc n)) = leb n 9223372036854775807
-okPlain (string b) = leb (length b) 32 && allBelow 256 b
-
-okAssigned : Assigned → Bool
-okAssigned (plain v) = okPlain v
-okAssigned emptyMap = true
-okAssigned emptyList = true
-
-okPrev : Prev → Bool
-okPrev head = true
-okPrev (after e) = okId e
-
-okWay : Way → Bool
-okWay (assign a) = okAssigned a
-okWay delete = true
-okWay (insert p a) = okPrev p && okAssigned a
-okWay (intoMap k w) = okKey k && okWay w
-okWay (intoList e w) = okId e && okWay w
-
-okEdit : List ℕ → Way → Bool
-okEdit top w = okKey top && (okWay w && leb (steps w) 7)
-
-okCounters : List ℕ → Bool
-okCounters s = eqb (length s) 8 && allBelow 4294967296 s
-
-ok : Operation → Bool
-ok o = okId (o .id) && (okCounters (o .deps) && okEdit (o .top) (o .way))
-
-both : (a b : Bool) → (a && b) ≡ true → (a ≡ true) × (b ≡ true)
-both true b e = (refl, e)
-both false b e = absurd (false≢true e)
-
-each : (c : ℕ) (s : List ℕ) → 0 < c → allBelow c s ≡ true → (n : ℕ) → entry s n < c
-unfolding allBelow
-each c [] p e n = p
-each c (x ∷ s) p e zero = ltb-true x c (both (ltb x c) _ e .0)
-each c (x ∷ s) p e (suc n) = each c s p (both (ltb x c) _ e .1) n
-
-bytes : (k : List ℕ) → allBelow 256 k ≡ true → Bytes k
-unfolding allBelow
-bytes [] e = tt
-bytes (b ∷ k) e = let t = both (ltb b 256) _ e in (ltb-true b 256 (t .0), bytes k (t .1))
-
-valid-plain : (v : Plain) → okPlain v ≡ true → ValidPlain v
-unfolding okPlain
-valid-plain null e = tt
-valid-plain (bool b) e = tt
-valid-plain (integer (pos n)) e = leb-true n _ e
-valid-plain (integer (negsuc n)) e = leb-true n _ e
-valid-plain (string b) e = let t = both (leb (length b) 32) _ e in record { short = leb-true (length b) 32 (t .0); bytes = bytes b (t .1) }
-
-valid-assigned : (a : Assigned) → okAssigned a ≡ true → ValidAssigned a
-unfolding okAssigned
-valid-assigned (plain v) e = valid-plain v e
-valid-assigned emptyMap e = tt
-valid-assigned emptyList e = tt
-
-valid-key : (k : List ℕ) → okKey k ≡ true → ValidKey k
-unfolding okKey
-valid-key k e = let t = both (leb (length k) 16) _ e in record { short = leb-true (length k) 16 (t .0); bytes = bytes k (t .1) }
-
-valid-way : (w : Way) → okWay w ≡ true → ValidWay w
-unfolding okWay okPrev okId
-valid-way (assign a) e = valid-assigned a e
-valid-way delete e = tt
-valid-way (insert head a) e = (tt, valid-assigned a e)
-valid-way (insert (after i) a) e =
-    let t = both (okId i) _ e in
-    let u = both (leb 1 (counterOf i)) _ (t .0) in
-    (record { low = leb-true 1 _ (u .0); high = leb-true _ 4294967295 (u .1) }, valid-assigned a (t .1))
-valid-way (intoMap k w) e = let t = both (okKey k) _ e in (valid-key k (t .0), valid-way w (t .1))
-valid-way (intoList i w) e =
-    let t = both (okId i) _ e in
-    let u = both (leb 1 (counterOf i)) _ (t .0) in
-    (record { low = leb-true 1 _ (u .0); high = leb-true _ 4294967295 (u .1) }, valid-way w (t .1))
-
-valid : (o : Operation) → ok o ≡ true → ValidOperation o
-unfolding ok okId okCounters okEdit
-valid o e =
-    let t = both (okId (o .id)) _ e in
-    let u = both (leb 1 (counterOf (o .id))) _ (t .0) in
-    let d = both (okCounters (o .deps)) _ (t .1) in
-    let c = both (eqb (length (o .deps)) 8) _ (d .0) in
-    let w = both (okKey (o .top)) _ (d .1) in
-    let r = both (okWay (o .way)) _ (w .1) in
-    let below = each 4294967296 (o .deps) (omega arith) (c .1) in
-    record {
-      id = record { low = leb-true 1 _ (u .0); high = leb-true _ 4294967295 (u .1) };
-      deps = record { eight = eqb-true _ 8 (c .0); each = λ n. omega (arith, below n) };
-      edit = record { first = valid-key (o .top) (w .0); rest = valid-way (o .way) (r .0); reach = leb-true _ 7 (r .1) };
-    }
 
 -- The play of some operations: their validity and texts, the answers, the terminal at the end.
 
@@ -147,7 +39,7 @@ pub record Play : Type 0 where
   pub cases : List Answer
   pub exit : Terminal
 
-play : List Operation → Terminal → Play
+unfoldable pub play : List Operation → Terminal → Play
 play [] T = record { valid = true; messages = []; answers = []; cases = []; exit = T }
 play (o ∷ os) T =
     let r = receive o T in
@@ -160,7 +52,7 @@ play (o ∷ os) T =
       exit = p .exit;
     }
 
-played : (os : List Operation) (T : Terminal) → play os T .valid ≡ true → play os T .cases ≡ play os T .answers
+pub played : (os : List Operation) (T : Terminal) → play os T .valid ≡ true → play os T .cases ≡ play os T .answers
     → Answered T (play os T .messages) (play os T .answers) (play os T .exit)
 unfolding play
 played [] T e c = refl
@@ -222,41 +114,41 @@ all-hold (x ∷ es) (os ∷ ps) e = (holds x os (head-eq-of-cons-eq e), all-hold
 
 -- The operations.
 
-abbrev two : ℕ → ℕ → List ℕ
+abbrev pub two : ℕ → ℕ → List ℕ
 two a b = a ∷ b ∷ 0 ∷ 0 ∷ 0 ∷ 0 ∷ 0 ∷ 0 ∷ []
 
 -- c.r with deps a, b, 0, ..
-abbrev op : ℕ → ℕ → ℕ → ℕ → List ℕ → Way → Operation
+abbrev pub op : ℕ → ℕ → ℕ → ℕ → List ℕ → Way → Operation
 op c r a b top w = record { id = idOf c r; deps = two a b; top = top; way = w }
 
-abbrev i : ℕ → Way
+abbrev pub i : ℕ → Way
 i n = assign (plain (integer (pos n)))
 
-abbrev s : List ℕ
+abbrev pub s : List ℕ
 s = ascii "s"
 
-abbrev m : List ℕ
+abbrev pub m : List ℕ
 m = ascii "m"
 
-abbrev m1 : Operation
+abbrev pub m1 : Operation
 m1 = op 1 1 0 0 s (assign emptyList)
 
-abbrev m2 : Operation
+abbrev pub m2 : Operation
 m2 = op 2 1 1 0 s (insert head (plain (string (ascii "a"))))
 
-abbrev m3 : Operation
+abbrev pub m3 : Operation
 m3 = op 3 1 2 0 s (insert (after (idOf 2 1)) (plain (string (ascii "b"))))
 
-abbrev m4 : Operation
+abbrev pub m4 : Operation
 m4 = op 3 2 2 0 s (insert (after (idOf 2 1)) (plain (string (ascii "c"))))
 
-abbrev m5 : Operation
+abbrev pub m5 : Operation
 m5 = op 4 1 3 0 s (intoList (idOf 2 1) delete)
 
-abbrev a1 : Operation
+abbrev pub a1 : Operation
 a1 = op 1 1 0 0 m (i 1)
 
-abbrev a2 : Operation
+abbrev pub a2 : Operation
 a2 = op 1 2 0 0 m (i 2)
 
 abbrev b1 : Operation

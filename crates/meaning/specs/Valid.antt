@@ -25,15 +25,18 @@ abbrev pub Bytes : List ℕ → Type 0
 Bytes [] = Unit {0}
 Bytes (b ∷ bs) = (b < 256) × Bytes bs
 
--- a key: 0 to 16 bytes, any bytes
-pub record ValidKey (k : List ℕ) : Type 0 where
-  pub short : length k ≤ 16
-  pub bytes : Bytes k
+-- a text of at most n bytes, any bytes
+pub record ValidText (n : ℕ) (t : List ℕ) : Type 0 where
+  pub short : length t ≤ n
+  pub bytes : Bytes t
+
+-- a key: 0 to 16 bytes
+abbrev pub ValidKey : List ℕ → Type 0
+ValidKey = ValidText 16
 
 -- a string: 0 to 32 bytes
-pub record ValidString (b : List ℕ) : Type 0 where
-  pub short : length b ≤ 32
-  pub bytes : Bytes b
+abbrev pub ValidString : List ℕ → Type 0
+ValidString = ValidText 32
 
 -- integers from -9223372036854775808 to 9223372036854775807
 abbrev pub ValidPlain : Plain → Type 0
@@ -42,6 +45,10 @@ ValidPlain (bool b) = Unit {0}
 ValidPlain (integer (pos n)) = n ≤ 9223372036854775807
 ValidPlain (integer (negsuc n)) = n ≤ 9223372036854775807
 ValidPlain (string b) = ValidString b
+
+-- a value as a place holds it: what is assigned and what is stored are told apart, though today the same values serve both
+abbrev pub ValidStored : Plain → Type 0
+ValidStored = ValidPlain
 
 abbrev pub ValidAssigned : Assigned → Type 0
 ValidAssigned (plain v) = ValidPlain v

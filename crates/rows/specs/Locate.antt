@@ -57,7 +57,8 @@ elementsFoundRows d n delete rs = true
 elementsFoundRows d n (insert head a) rs = true
 elementsFoundRows d n (insert (after e) a) rs = covered d e && isLocated (locateElement n e rs)
 elementsFoundRows d n (intoMap k w) rs = elementsFoundRows d (suc n) w (underOf (locateKey n k rs))
-elementsFoundRows d n (intoList e w) rs = covered d e && elim (locateElement n e rs) [ nowhere ↦ false | here b ↦ elementsFoundRows d (suc n) w (b .under) ]
+elementsFoundRows d n (intoList e w) rs =
+    covered d e && elim (locateElement n e rs) [ nowhere ↦ false | here b ↦ elementsFoundRows d (suc n) w (b .under) ]
 
 unfoldable pub astrayRows : Operation → List Row → Bool
 astrayRows o rs = not (elementsFoundRows (o .deps) 2 (o .way) (underOf (locateKey 1 (o .top) rs)))
@@ -199,7 +200,8 @@ found-rows d (intoMap k w) n c =
     ∙ ap (rows (suc n)) (sym (look-lookup k (childrenOf c)))))
     ∙ found-rows d w (suc n) (look k (childrenOf c))
 found-rows d (intoList e w) n c =
-    ap (λ l. covered d e && elim l as (λ l. Bool) [ nowhere ↦ false | here b ↦ elementsFoundRows d (suc n) w (b .under) ]) (under-element n e c)
+    ap (λ l. covered d e && elim l as (λ l. Bool) [ nowhere ↦ false | here b ↦ elementsFoundRows d (suc n) w (b .under) ])
+    (under-element n e c)
     ∙ ap (λ b. covered d e && b) (go (find e (elementsOf c)) (λ x. found-rows d w (suc n) x))
   where
     go : (f : Found) → ((x : Place) → elementsFoundRows d (suc n) w (rows (suc n) x) ≡ elementsFound d w x)

@@ -11,7 +11,7 @@ use Rattle.meaning.specs.Answers.{done, badLine}
 use Rattle.meaning.specs.Edit.{edit}
 use Rattle.meaning.specs.Sheet.{sheet}
 use Rattle.meaning.specs.Read.{ValidPlaceWay, placeWayText, ValidKeysWay, keysWayText, elementWayText}
-use Rattle.meaning.specs.Read.{Told, keys, values, nthElement, answerRead}
+use Rattle.meaning.specs.Read.{Finding, keys, values, nthElement, answerRead}
 use Rattle.meaning.specs.Stream.{messages}
 use Rattle.meaning.specs.Promises.{Says, says, saysNothing, received, Receives, Lines, ValidLines, linesOf, edited, Edits, Saves}
 use Rattle.meaning.specs.Promises.{SheetSays, accepted, broken, loaded, Loads}
@@ -90,7 +90,7 @@ loads-once T bytes a b U V′ p q =
 
 -- The three reads.
 
-module _ {A : Type 0} (Valid : A → Type 0) (text : A → List ℕ) (one : OneSpelling Valid text) (look : A → Document → Told) where
+module _ {A : Type 0} (Valid : A → Type 0) (text : A → List ℕ) (one : OneSpelling Valid text) (look : A → Document → Finding) where
   asked-once : {bytes : List ℕ} (p q : Says Valid text bytes) (D : Document) (buffer : List ℕ)
       → asked look p D buffer ≡ asked look q D buffer
   asked-once (says a v e) (says b w g) D buffer = ap (λ w. answerRead (look w D) buffer) (one a b v w (sym e ∙ g))

@@ -24,7 +24,7 @@ use Rattle.theorems.specs.Tests.{Checked, Why, repeats, crosses, barred,
 use Rattle.theorems.specs.Verdicts.{Judged, refuses, keeps, takes, judged, takes-alive, keeps-alive}
 use Rattle.theorems.specs.Following.{Alive}
 use Rattle.theorems.specs.Receivers.{Event, Formed, appliedIn, live-follows}
-use Rattle.theorems.specs.Led.{astray-still}
+use Rattle.theorems.specs.ElementsFound.{astray-still}
 
 -- seen only grows, so a repeat and a crossed one stay so
 repeated-still : (s t : List ℕ) (o : Operation) → entry s (who o) ≤ entry t (who o) → repeated s o ≡ true → repeated t o ≡ true

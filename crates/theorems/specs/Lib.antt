@@ -10,7 +10,7 @@ pub mod Elements
 pub mod Atoms
 pub mod Commute
 pub mod Finding
-pub mod Led
+pub mod ElementsFound
 -- Convergence, and what two receivers hold.
 pub mod Converge
 pub mod Same
@@ -52,3 +52,4 @@ pub mod Accepting
 pub mod Sizes
 pub mod Numbered
 pub mod Determined
+pub mod Worked

@@ -43,7 +43,8 @@ found-known d (intoMap k w) c e = found-known d w _ e
 found-known d (intoList g w) c e =
     (and-left (covered d g) _ e, go (find g (elementsOf c)) (and-right (covered d g) _ e) (λ x u. found-known d w x u))
   where
-    go : (f : Found) → elim f [ found x ↦ elementsFound d w x | unknown ↦ false ] ≡ true → ((x : Place) → elementsFound d w x ≡ true → Known d w) → Known d w
+    go : (f : Found) → elim f [ found x ↦ elementsFound d w x | unknown ↦ false ] ≡ true
+        → ((x : Place) → elementsFound d w x ≡ true → Known d w) → Known d w
     go (found x) e r = r x e
     go unknown e r = absurd (false≢true e)
 

@@ -84,8 +84,8 @@ judged o T =
     let D = T .document in
     go (notAbove o) refl (repeated (D .seen) o) refl (ownDepsBehind (D .seen) o) refl (readyIn D o) refl
   where
-    go : (a : Bool) → notAbove o ≡ a → (b : Bool) → repeated (T .document .seen) o ≡ b → (c : Bool) → ownDepsBehind (T .document .seen) o ≡ c
-        → (d : Bool) → readyIn (T .document) o ≡ d
+    go : (a : Bool) → notAbove o ≡ a → (b : Bool) → repeated (T .document .seen) o ≡ b → (c : Bool)
+        → ownDepsBehind (T .document .seen) o ≡ c → (d : Bool) → readyIn (T .document) o ≡ d
         → Judged o T (cond a (refused (only 2)) (cond b (refused (only 3)) (cond c (refused (only 4))
         (cond d (judgeReady o (T .document)) (judgeEarly o (T .waiting))))))
     go true e b f c g d h = refuses _ tt

@@ -61,7 +61,8 @@ module _ (d : List ℕ) where
   still-mark : (i : ℕ) → Still (mark i)
   still-mark i = still-branches (mark i) (mark-branches i)
 
-  still-map : (g : Children → Children) → ((w : Way) (k : List ℕ) (ks : Children) → elementsFound d w (look k (g ks)) ≡ elementsFound d w (look k ks))
+  still-map : (g : Children → Children)
+      → ((w : Way) (k : List ℕ) (ks : Children) → elementsFound d w (look k (g ks)) ≡ elementsFound d w (look k ks))
       → Still (onMap g)
   unfolding onMap elementsFound
   still-map g h (assign a) c = refl
