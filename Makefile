@@ -34,3 +34,7 @@ same:
 	cmp bench/typical.message crates/readings/stdin
 	rust/target/release/vectors bench typical 10 | cmp - crates/works/stdin
 	rust/target/release/workbench <crates/works/stdin | cmp - crates/works/stdout
+
+# the must-fail edits that the gate doesn't try (tools/edits): of all crates, or of those that CRATES names
+edits:
+	tools/try-edits $(CRATES)
