@@ -1,20 +1,19 @@
 # The two commands of the README.
 #   make demo   proves and builds `merge`, and runs it on two streams
 #   make test   passes all tests; its last line is the gate's own, 'N passed, 0 failed'
-.PHONY: demo test setup rust-test same
+.PHONY: demo test setup rust-test same edits
 
 demo:
 	rt check merge
 	tools/run target/bin/merge <examples/five.messages
 	tools/run target/bin/merge <examples/bringup.messages
 
-# one job more than there are processors, since rt waits for each batch to end; on two processors it was no slower, and no faster either (docs/CHECKS.md)
-test: setup rust-test same
-	RT_JOBS=$$(($$(nproc) + 1)) rt ci
+test: setup
+	@tools/gate
 
 # what the kit's machine has already; elsewhere Debian's packages
 setup:
-	@command -v cargo >/dev/null || { apt-get update && apt-get install -y cargo; }
+	@for tool in cargo python3; do command -v $$tool >/dev/null || { apt-get update && apt-get install -y $$tool; } || exit 1; done
 
 # the second implementation: its own tests, and its program over the kept streams
 rust-test:
@@ -35,3 +34,7 @@ same:
 	cmp bench/typical.message crates/readings/stdin
 	rust/target/release/vectors bench typical 10 | cmp - crates/works/stdin
 	rust/target/release/workbench <crates/works/stdin | cmp - crates/works/stdout
+
+# the must-fail edits that the gate doesn't try (tools/edits): of all crates, or of those that CRATES names
+edits:
+	tools/try-edits $(CRATES)

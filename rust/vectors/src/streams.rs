@@ -33,11 +33,17 @@ pub fn five() -> [Vec<u8>; 5] {
     ]
 }
 
-/// The five messages, and with the last two exchanged. The sheet of both is `FIVE`.
+/// The five messages, and with the last two exchanged.
+pub fn orders() -> [[Vec<u8>; 5]; 2] {
+    let mut exchanged = five();
+    exchanged.swap(3, 4);
+    [five(), exchanged]
+}
+
+/// The streams of both orders. The sheet of both is `FIVE`.
 pub fn examples() -> [(&'static str, Vec<u8>); 2] {
-    let mut other = five();
-    other.swap(3, 4);
-    [("merge-example", five().concat()), ("merge-example-other", other.concat())]
+    let [first, exchanged] = orders().map(|messages| messages.concat());
+    [("merge-example", first), ("merge-example-other", exchanged)]
 }
 
 /// A stream for each other name. Its sheet is what the library's `merge` gives.

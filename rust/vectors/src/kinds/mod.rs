@@ -6,6 +6,7 @@ mod chains;
 mod damaged;
 mod deep;
 mod deleted;
+mod example;
 mod full;
 mod honest;
 mod layout;
@@ -24,6 +25,7 @@ pub type Play = fn(&mut Random, &mut Script);
 pub type Kind = (&'static str, Play);
 
 pub const KINDS: &[Kind] = &[
+    ("example", example::play),
     ("honest", honest::play),
     ("wild", wild::play),
     ("damaged", damaged::play),
