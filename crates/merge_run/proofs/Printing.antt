@@ -13,7 +13,7 @@ use Rattle.meaning.specs.declared.Saved.the-variants.{Written, ShortBuffer}
 use Rattle.theorems.specs.Sizes.{sheet-short}
 use Rattle.tables.specs.Words.{Tables}
 use Rattle.tables.specs.Holding.{four}
-use Rattle.terminal.specs.declared.State.{State}
+use Rattle.keeping.specs.declared.State.{State}
 use Rattle.sheet.specs.Saving.{Saving}
 use Rattle.sheet.proofs.Saved.{sound-valid}
 use Rattle.feed.specs.Whole.{Merged, Prints}

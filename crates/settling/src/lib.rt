@@ -1,13 +1,49 @@
-// Document 01, "What is answered", last paragraph: the waiting messages are settled, in rounds.
-use crate::Rounded;
-use crate::Settled;
-use crate::State;
-use crate::Swept;
-use crate::sorts::is_dead;
+// Document 01, "What is answered", last paragraph: the waiting messages of a terminal in lent memory are settled, in rounds. Each function
+// is safe on any memory.
 use apply::Judgement;
 use apply::is_taken;
+use keeping::State;
+ghost use mathlib.Core.Path.{_≡_};
 ghost use Rattle.tables.specs.Holding.{four};
-ghost use Rattle.terminal.specs.Settling.{Looks, Sweeps, Rounds, Settles};
+ghost use Rattle.settling.specs.Verdicts.{deadly};
+ghost use Rattle.settling.specs.Settling.{Looks, Sweeps, Rounds, Settles};
+
+// The dead are gone; the first of the others that can be applied, if one was found.
+struct Swept {
+    state: State,
+    found: bool,
+    able: usize,
+}
+
+// A round of settling: whether an operation was applied, and how many were dropped.
+struct Rounded {
+    state: State,
+    applied: bool,
+    dropped: u64,
+}
+
+// The waiting messages are settled: how many were applied, and how many dropped.
+pub struct Settled {
+    pub state: State,
+    pub applied: u64,
+    pub dropped: u64,
+}
+
+// 3, 4, 8, 9: a waiting message that is dropped.
+fn is_dead(j: Judgement) -> bool
+    ensures { λ r. ⌜ r ≡ deadly j ⌝ }
+{
+    match j {
+        Judgement::Repeat => true,
+        Judgement::OwnDeps => true,
+        Judgement::NoElement => true,
+        Judgement::NotSmaller => true,
+        Judgement::Taken => false,
+        Judgement::Early => false,
+        Judgement::Counter => false,
+        Judgement::NoRoom => false,
+    }
+}
 
 // The verdict on the operation that waits at i.
 fn look(

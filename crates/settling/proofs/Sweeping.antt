@@ -17,13 +17,13 @@ use Rattle.apply.specs.Judging.{isTaken, verdict}
 use Rattle.apply.specs.declared.Judgement.{Judgement}
 use Rattle.waiting.specs.Waits.{Waits, Gone, TakesOut}
 use Rattle.waiting.proofs.Holds.{all-at, all-but}
-use Rattle.terminal.specs.declared.State.{State}
-use Rattle.terminal.specs.declared.Swept.{Swept}
-use Rattle.terminal.specs.Verdicts.{deadly}
-use Rattle.terminal.specs.Keeping.{Keeps}
-use Rattle.terminal.specs.Settling.{Looks, Spot, none, Rid}
-use Rattle.terminal.proofs.Verdicts.{deadly-verdict, taken-verdict}
-use Rattle.terminal.proofs.Picking.{spot-more, spot-past, spot-new}
+use Rattle.keeping.specs.declared.State.{State}
+use Rattle.settling.specs.declared.Swept.{Swept}
+use Rattle.settling.specs.Verdicts.{deadly}
+use Rattle.keeping.specs.Keeping.{Keeps}
+use Rattle.settling.specs.Settling.{Looks, Spot, none, Rid}
+use Rattle.settling.proofs.Verdicts.{deadly-verdict, taken-verdict}
+use Rattle.settling.proofs.Picking.{spot-more, spot-past, spot-new}
 
 -- the operations that aren't dead
 abbrev pub live : Document → List Operation → List Operation

@@ -19,7 +19,7 @@ use Rattle.theorems.specs.Picking.{picked-shorter}
 use Rattle.theorems.specs.Settling.{left, rid, next}
 use Rattle.theorems.specs.Rounds.{bound-enough}
 use Rattle.waiting.specs.Waits.{idOf}
-use Rattle.terminal.specs.Settling.{Spot, none, spot}
+use Rattle.settling.specs.Settling.{Spot, none, spot}
 
 -- Where the first is.
 module _ (p : Operation → Bool) where

@@ -1,4 +1,4 @@
--- `terminal::settling::sweep` meets its contract. The invariant: the operations that were passed are rid of the dead. Assumes nothing.
+-- `settling::sweep` meets its contract. The invariant: the operations that were passed are rid of the dead. Assumes nothing.
 use Prim.Native.Nat.{_≤_, _-_}
 use native.Mathlib.Omega.{arith}
 use mathlib.Core.Path.{_≡_, refl, sym, _∙_}
@@ -6,12 +6,12 @@ use borrow.Author.Tests.{not-true, not-false}
 use lib.ListN.{length}
 use Rattle.meaning.specs.Receive.{Terminal}
 use Rattle.tables.specs.Holding.{four}
-use Rattle.terminal.specs.Keeping.{Keeps}
-use Rattle.terminal.proofs.Looking.{looks-early}
-use Rattle.terminal.proofs.Sweeping.{Sweeping, begins, ends, drops, one-less, passes, notes, passes-early}
+use Rattle.keeping.specs.Keeping.{Keeps}
+use Rattle.settling.proofs.Looking.{looks-early}
+use Rattle.settling.proofs.Sweeping.{Sweeping, begins, ends, drops, one-less, passes, notes, passes-early}
 use borrow.Author.Needs.{needs}
-use Rattle.terminal.proofs.settling.sweep.Statement.{statement}
-use Rattle.terminal.proofs.settling.sweep.Tie as tie
+use Rattle.settling.proofs.sweep.Statement.{statement}
+use Rattle.settling.proofs.sweep.Tie as tie
 
 abbrev Inv-loop : tie.InvT-loop
 Inv-loop heads keys marks values waiting₀ seen state₀ found₀ able₀ i₀ waiting state found able i =

@@ -13,11 +13,11 @@ use Rattle.theorems.specs.Settling.{left, rid, next}
 use Rattle.tables.specs.Words.{Tables}
 use Rattle.apply.specs.Judging.{verdict}
 use Rattle.apply.specs.declared.Judgement.{Judgement}
-use Rattle.terminal.specs.Keeping.{Keeps}
-use Rattle.terminal.specs.declared.State.{State}
-use Rattle.terminal.specs.declared.Swept.{Swept}
-use Rattle.terminal.specs.declared.Rounded.{Rounded}
-use Rattle.terminal.specs.declared.Settled.{Settled}
+use Rattle.keeping.specs.Keeping.{Keeps}
+use Rattle.keeping.specs.declared.State.{State}
+use Rattle.settling.specs.declared.Swept.{Swept}
+use Rattle.settling.specs.declared.Rounded.{Rounded}
+use Rattle.settling.specs.declared.Settled.{Settled}
 
 -- the verdict on the operation at i
 abbrev pub Looks : Tables → List ℕ → State → ℕ → Judgement → Type 0

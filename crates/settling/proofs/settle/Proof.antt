@@ -1,4 +1,4 @@
--- `terminal::settling::settle` meets its contract. The invariant: what is left to settle comes to the same. Assumes nothing.
+-- `settling::settle` meets its contract. The invariant: what is left to settle comes to the same. Assumes nothing.
 use Prim.Native.Nat.{_+_, _≤_}
 use native.Mathlib.Omega.{arith}
 use mathlib.Core.Path.{_≡_, refl}
@@ -6,11 +6,11 @@ use lib.ListN.{length}
 use borrow.Author.Tests.{not-true, not-false}
 use Rattle.meaning.specs.Receive.{Terminal}
 use Rattle.tables.specs.Holding.{four}
-use Rattle.terminal.specs.Keeping.{Keeps}
-use Rattle.terminal.proofs.Rounds.{Underway, underway, goes-on, comes-to-rest}
+use Rattle.keeping.specs.Keeping.{Keeps}
+use Rattle.settling.proofs.Rounds.{Underway, underway, goes-on, comes-to-rest}
 use borrow.Author.Needs.{needs}
-use Rattle.terminal.proofs.settling.settle.Statement.{statement}
-use Rattle.terminal.proofs.settling.settle.Tie as tie
+use Rattle.settling.proofs.settle.Statement.{statement}
+use Rattle.settling.proofs.settle.Tie as tie
 
 abbrev Inv-loop : tie.InvT-loop
 Inv-loop heads₀ keys₀ marks₀ values₀ waiting₀ state₀ applied₀ dropped₀ heads keys marks values waiting state applied dropped =

@@ -21,10 +21,10 @@ use Rattle.apply.specs.declared.Judgement.{Judgement}
 use Rattle.apply.specs.declared.Judgement.the-variants as J
 use Rattle.waiting.specs.Waits.{TellsEarly, Tells}
 use Rattle.waiting.proofs.Holds.{all-at}
-use Rattle.terminal.specs.declared.State.{State}
-use Rattle.terminal.specs.Keeping.{Keeps}
-use Rattle.terminal.specs.Settling.{Looks}
-use Rattle.terminal.proofs.Verdicts.{early-verdict}
+use Rattle.keeping.specs.declared.State.{State}
+use Rattle.keeping.specs.Keeping.{Keeps}
+use Rattle.settling.specs.Settling.{Looks}
+use Rattle.settling.proofs.Verdicts.{early-verdict}
 
 module _ (T : Tables) (t : List ℕ) (s : State) (i : ℕ) where
   -- one that comes too early: its counter is above its own terminal's entry of deps, which isn't below that of seen

@@ -1,10 +1,10 @@
--- `terminal::settling::round` meets its contract: what was found by the sweep is applied and taken out. Assumes nothing.
+-- `settling::round` meets its contract: what was found by the sweep is applied and taken out. Assumes nothing.
 use native.Mathlib.Omega.{arith}
 use borrow.Author.Tests.{not-true, not-false}
-use Rattle.terminal.proofs.Rounds.{rounds-over, rounds-cut, rounds-on}
+use Rattle.settling.proofs.Rounds.{rounds-over, rounds-cut, rounds-on}
 use borrow.Author.Needs.{needs}
-use Rattle.terminal.proofs.settling.round.Statement.{statement}
-use Rattle.terminal.proofs.settling.round.Tie as tie
+use Rattle.settling.proofs.round.Statement.{statement}
+use Rattle.settling.proofs.round.Tie as tie
 
 returns : tie.Need-returns
 returns c =

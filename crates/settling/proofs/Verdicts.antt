@@ -11,7 +11,7 @@ use Rattle.meaning.specs.Receive.{readyIn, dead, able}
 use Rattle.apply.specs.Judging.{isTaken, readyVerdict, verdict}
 use Rattle.apply.specs.declared.Judgement.{Judgement}
 use Rattle.apply.specs.declared.Judgement.the-variants as J
-use Rattle.terminal.specs.Verdicts.{deadly}
+use Rattle.settling.specs.Verdicts.{deadly}
 
 -- the verdict by the tests 3, 4, ready, 8, 9, 10
 abbrev pub by : Bool → Bool → Bool → Bool → Bool → Bool → Judgement

@@ -6,9 +6,9 @@ use Rattle.meaning.specs.Members.{All}
 use Rattle.meaning.specs.Receive.{Terminal}
 use Rattle.theorems.specs.Invariant.{Sent}
 use Rattle.tables.specs.Words.{Tables}
-use Rattle.apply.specs.Judging.{Stores}
 use Rattle.waiting.specs.Waits.{Waits}
-use Rattle.terminal.specs.declared.State.{State}
+use Rattle.keeping.specs.Storing.{Stores}
+use Rattle.keeping.specs.declared.State.{State}
 
 pub record Keeps (T : Tables) (t : List ℕ) (s : State) (X : Terminal) : Type 0 where
   pub document : Stores T (s .counts) (s .seen .at) (X .document)

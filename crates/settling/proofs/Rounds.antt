@@ -16,18 +16,19 @@ use Rattle.theorems.specs.Members.{all-pass}
 use Rattle.theorems.specs.Settling.{left, rid, next, next-all}
 use Rattle.tables.specs.Words.{Tables}
 use Rattle.message.specs.declared.Operation as M
-use Rattle.apply.specs.Judging.{isTaken, verdict, Stores, TakesOn}
+use Rattle.keeping.specs.Storing.{Stores}
+use Rattle.apply.specs.Judging.{isTaken, verdict, TakesOn}
 use Rattle.apply.specs.declared.Later.{Later}
 use Rattle.waiting.specs.Waits.{Waits, Gone, Tells, TakesOut}
 use Rattle.waiting.proofs.Holds.{all-at}
-use Rattle.terminal.specs.declared.State.{State}
-use Rattle.terminal.specs.declared.Swept.{Swept}
-use Rattle.terminal.specs.declared.Rounded.{Rounded}
-use Rattle.terminal.specs.declared.Settled.{Settled}
-use Rattle.terminal.specs.Keeping.{Keeps}
-use Rattle.terminal.specs.Settling.{Rid, Sweeps, Over, On, Round, Rounds, Rests, Settles}
-use Rattle.terminal.proofs.Verdicts.{taken-verdict}
-use Rattle.terminal.proofs.Picking.{Spotted, spotted, spot-nobody, without-at, settle-over, settle-on}
+use Rattle.keeping.specs.declared.State.{State}
+use Rattle.settling.specs.declared.Swept.{Swept}
+use Rattle.settling.specs.declared.Rounded.{Rounded}
+use Rattle.settling.specs.declared.Settled.{Settled}
+use Rattle.keeping.specs.Keeping.{Keeps}
+use Rattle.settling.specs.Settling.{Rid, Sweeps, Over, On, Round, Rounds, Rests, Settles}
+use Rattle.settling.proofs.Verdicts.{taken-verdict}
+use Rattle.settling.proofs.Picking.{Spotted, spotted, spot-nobody, without-at, settle-over, settle-on}
 
 module _ (T : Tables) (t t₁ : List ℕ) (s : State) (w : Swept) (S : Sweeps T t s w t₁) where
   abbrev dropped : ℕ

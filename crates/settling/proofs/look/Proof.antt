@@ -1,8 +1,8 @@
--- `terminal::settling::look` meets its contract. Assumes nothing.
+-- `settling::look` meets its contract. Assumes nothing.
 use borrow.Author.Needs.{needs}
-use Rattle.terminal.proofs.Looking.{looks-whole}
-use Rattle.terminal.proofs.settling.look.Statement.{statement}
-use Rattle.terminal.proofs.settling.look.Tie as tie
+use Rattle.settling.proofs.Looking.{looks-whole}
+use Rattle.settling.proofs.look.Statement.{statement}
+use Rattle.settling.proofs.look.Tie as tie
 
 pub look-spec : {M : Type 1} → statement M
 look-spec =
