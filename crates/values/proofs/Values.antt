@@ -22,7 +22,7 @@ use Rattle.tables.specs.Holding.{valuesRoom}
 use Rattle.tables.specs.Parts.{values-length, values-of-append, values-parts}
 use Rattle.tables.specs.Values.{strides-value, each-flat}
 use Rattle.words.proofs.Padded.{put-pad, keep-pad}
-use Rattle.steps.proofs.Changed.{values-between}
+use Rattle.tables.specs.Changed.{values-between}
 
 -- The words of the rows A, then of the values vs, then of the rows R.
 abbrev pub among : List Row → List Value → List Row → List ℕ

@@ -1,12 +1,12 @@
--- `steps::value::drop_values` meets its contract: those kept are laid over all, and the rest is closed up to them. Assumes nothing.
+-- `values::drop_values` meets its contract: those kept are laid over all, and the rest is closed up to them. Assumes nothing.
 use native.Mathlib.Omega.{arith}
 use mathlib.Core.Path.{refl}
 use borrow.Author.Needs.{needs}
-use Rattle.steps.specs.Steps.{Drops}
-use Rattle.steps.proofs.Placed.{placed}
-use Rattle.steps.proofs.Dropped.{drops}
-use Rattle.steps.proofs.value.drop_values.Statement.{statement}
-use Rattle.steps.proofs.value.drop_values.Tie as tie
+use Rattle.values.specs.Values.{Drops}
+use Rattle.tables.specs.Placed.{placed}
+use Rattle.values.proofs.Dropped.{drops}
+use Rattle.values.proofs.drop_values.Statement.{statement}
+use Rattle.values.proofs.drop_values.Tie as tie
 
 returns : tie.Need-returns
 unfolding Drops

@@ -1,11 +1,11 @@
--- `steps::value::has_one` meets its contract. Assumes nothing.
+-- `values::has_one` meets its contract. Assumes nothing.
 use mathlib.Core.Path.{sym, _∙_}
 use mathlib.Core.Bool.{false≢true}
 use native.Mathlib.Omega.{arith}
 use borrow.Author.Needs.{needs}
-use Rattle.steps.proofs.Set.{has-one}
-use Rattle.steps.proofs.value.has_one.Statement.{statement}
-use Rattle.steps.proofs.value.has_one.Tie as tie
+use Rattle.values.proofs.Set.{has-one}
+use Rattle.values.proofs.has_one.Statement.{statement}
+use Rattle.values.proofs.has_one.Tie as tie
 
 returns-5 : tie.Need-returns-5
 returns-5 c e =

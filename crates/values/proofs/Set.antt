@@ -24,11 +24,11 @@ use Rattle.tables.specs.Parts.{at-behind, plain-six, values-length}
 use Rattle.tables.specs.Standing.{behind}
 use Rattle.tables.specs.declared.Counts.{Counts}
 use Rattle.tables.specs.declared.Position.{Position}
-use Rattle.steps.specs.Steps.{Drops, Adds, One, Sets}
-use Rattle.steps.proofs.Added.{six, six-is}
-use Rattle.steps.proofs.Changed.{marks-same, values-between, changed}
-use Rattle.steps.proofs.Placed.{placed}
-use Rattle.steps.proofs.Values.{value-first, value-over}
+use Rattle.values.specs.Values.{Drops, Adds, One, Sets}
+use Rattle.values.proofs.Added.{six, six-is}
+use Rattle.tables.specs.Changed.{marks-same, values-between, changed}
+use Rattle.tables.specs.Placed.{placed}
+use Rattle.values.proofs.Values.{value-first, value-over}
 
 only : (vs : List Value) → length vs ≡ 1 → (y : Value) × (vs ≡ y ∷ [])
 only [] e = absurd (omega arith)

@@ -24,10 +24,10 @@ use Rattle.tables.specs.Parts.{at-behind}
 use Rattle.tables.specs.Values.{strides-value}
 use Rattle.tables.specs.declared.Counts.{Counts}
 use Rattle.tables.specs.declared.Position.{Position}
-use Rattle.steps.specs.Steps.{Drops}
-use Rattle.steps.proofs.Changed.{marks-same, changed}
-use Rattle.steps.proofs.Placed.{placed}
-use Rattle.steps.proofs.Values.{among-is, kept-is, values-kept}
+use Rattle.values.specs.Values.{Drops}
+use Rattle.tables.specs.Changed.{marks-same, changed}
+use Rattle.tables.specs.Placed.{placed}
+use Rattle.values.proofs.Values.{among-is, kept-is, values-kept}
 
 pub drops : (s : Position) (d : List ℕ) (n end gone : ℕ) (c : Counts) (h v v₁ v₂ : List ℕ) → 6 * c .values ≤ length v → s .value ≤ c .values
     → n ≤ c .values - s .value → n ≡ valuesAt (getD h (s .row) 0)

@@ -1,11 +1,11 @@
--- `steps::value::add_value` meets its contract: the value's words are put in at its rank. Assumes nothing.
+-- `values::add_value` meets its contract: the value's words are put in at its rank. Assumes nothing.
 use native.Mathlib.Omega.{arith}
 use borrow.Author.Needs.{needs}
-use Rattle.steps.specs.Steps.{Adds}
-use Rattle.steps.proofs.Placed.{placed}
-use Rattle.steps.proofs.Added.{adds}
-use Rattle.steps.proofs.value.add_value.Statement.{statement}
-use Rattle.steps.proofs.value.add_value.Tie as tie
+use Rattle.values.specs.Values.{Adds}
+use Rattle.tables.specs.Placed.{placed}
+use Rattle.values.proofs.Added.{adds}
+use Rattle.values.proofs.add_value.Statement.{statement}
+use Rattle.values.proofs.add_value.Tie as tie
 
 returns : tie.Need-returns
 unfolding Adds

@@ -20,11 +20,11 @@ use Rattle.tables.specs.Holding.{marksRoom, valuesRoom}
 use Rattle.tables.specs.Parts.{at-behind, plain-six}
 use Rattle.tables.specs.declared.Counts.{Counts}
 use Rattle.tables.specs.declared.Position.{Position}
-use Rattle.steps.specs.Steps.{Adds}
+use Rattle.values.specs.Values.{Adds}
 use Rattle.words.proofs.Padded.{put-more}
-use Rattle.steps.proofs.Changed.{marks-same, changed}
-use Rattle.steps.proofs.Placed.{placed}
-use Rattle.steps.proofs.Values.{among-is, rank-is, value-put}
+use Rattle.tables.specs.Changed.{marks-same, changed}
+use Rattle.tables.specs.Placed.{placed}
+use Rattle.values.proofs.Values.{among-is, rank-is, value-put}
 
 -- the six words that are written
 abbrev pub six : ℕ → ℕ → List ℕ → List ℕ

@@ -1,9 +1,9 @@
--- `steps::value::set_value` meets its contract. Assumes nothing.
+-- `values::set_value` meets its contract. Assumes nothing.
 use native.Mathlib.Omega.{arith}
 use borrow.Author.Needs.{needs}
-use Rattle.steps.proofs.Set.{sets-one, sets-many}
-use Rattle.steps.proofs.value.set_value.Statement.{statement}
-use Rattle.steps.proofs.value.set_value.Tie as tie
+use Rattle.values.proofs.Set.{sets-one, sets-many}
+use Rattle.values.proofs.set_value.Statement.{statement}
+use Rattle.values.proofs.set_value.Tie as tie
 
 mul-at : tie.Need-mul-at
 mul-at c =

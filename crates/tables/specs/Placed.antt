@@ -7,15 +7,15 @@ use mathlib.Core.Path.{_≡_}
 use mathlib.Core.List.{List, [], _∷_, _++_}
 use lib.ListN.{length, getD}
 use Rattle.meaning.specs.Sheet.{Row}
 use Rattle.tables.specs.Words.{headWord, marksAt, valuesAt, Tables}
 use Rattle.tables.specs.Finds.{AllNarrow, bit-small, side-small, marks-in, values-in}
 use Rattle.tables.specs.Standing.{behind}
 use Rattle.tables.specs.Holding.{Good, Holds}
 use Rattle.tables.specs.Parts.{at-behind, holds-narrow, all-narrow-right, all-right, marks-long, values-long}
 use Rattle.tables.specs.Stands.{head-at}
 use Rattle.tables.specs.declared.Counts.{Counts}
 use Rattle.tables.specs.declared.Position.{Position}
-use Rattle.steps.proofs.Changed.{marks-between, values-between, row-in}
+use Rattle.tables.specs.Changed.{marks-between, values-between, row-in}
 
 pub record Placed (T : Tables) (c : Counts) (s : Position) (r : Row) : Type 0 where
   pub row : s .row < length (T .heads)

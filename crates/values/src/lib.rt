@@ -1,4 +1,5 @@
-// A row's values: those that are covered go, and one comes.
+// The values of a row of the document's tables: those that are covered go, and one comes. Each function is safe on any memory: a place, a
+// count or a table that doesn't fit is found before the first word is written. What they promise of tables that hold rows says specs/Values.
 use counters::covered;
 use meaning::Counters;
 use tables::Counts;
@@ -11,7 +12,7 @@ use words::write_words;
 ghost use mathlib.Core.Path.{_≡_};
 ghost use mathlib.Core.List.{_∷_};
 ghost use Rattle.tables.specs.Words.{valuesAt};
-ghost use Rattle.steps.specs.Steps.{Drops, Adds, HasOne, Sets};
+ghost use Rattle.values.specs.Values.{Drops, Adds, HasOne, Sets};
 
 // How many values a row has, by its head's word.
 fn values_of(h: u64) -> usize

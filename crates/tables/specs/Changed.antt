@@ -2,21 +2,18 @@
 -- Assumes nothing.
 use Prim.Native.Nat.{ℕ, _+_, _-_, _≤_, _<_}
 use native.Mathlib.Omega.{arith}
-use mathlib.Core.Path.{_≡_, refl, sym, ap, _∙_}
-use mathlib.Core.Bool.{Bool, true, false}
+use mathlib.Core.Path.{_≡_, sym, ap, _∙_}
 use mathlib.Core.List.{List, _∷_, _++_}
-use lib.ListN.{length, set, getD, replicate, length-append}
+use lib.ListN.{length, set, replicate, length-append}
 use lib.Seq.{set-at}
 use Rattle.meaning.specs.Load.{marksIn, valuesIn}
 use Rattle.meaning.specs.Sheet.{Row}
 use Rattle.theorems.specs.Accepting.{marks-append, values-append}
 use Rattle.tables.specs.Words.{headWord, headsOf, keysOf, marksOf, valuesOf, eachValue, spotWords, pad, Tables}
 use Rattle.tables.specs.Standing.{keys-append, heads-length}
-use Rattle.tables.specs.Holding.{headsRoom, keysRoom, marksRoom, valuesRoom, Good, Holds, four, flagRow}
+use Rattle.tables.specs.Holding.{headsRoom, keysRoom, marksRoom, valuesRoom, Good, Holds, four}
 use Rattle.tables.specs.Parts.{marks-of-append, values-of-append, all-left, all-right, all-both, heads-long, heads-parts}
-use Rattle.tables.specs.Stands.{head-at}
 use Rattle.tables.specs.declared.Counts.{Counts}
-use Rattle.steps.specs.Steps.{FlagsHead, Flags}
 
 module _ (A : List Row) (r : Row) (R : List Row) where
   pub marks-between : marksIn (A ++ r ∷ R) ≡ marksIn A + (length (r .marks) + marksIn R)
@@ -83,27 +80,3 @@ module _ (A : List Row) (r r′ : Row) (R : List Row) where
         values-fit = l;
         good = all-both Good A (r′ ∷ R) (all-left Good A (r ∷ R) (H .good)) (g (G .0), G .1);
       }
-
--- The flag of a row's list, or of its map.
-pub flagged-row : (h k m v : List ℕ) (c : Counts) (A R : List Row) (r : Row) (list : Bool) → Holds (four h k m v) c (A ++ r ∷ R)
-    → Holds (four (set h (length A) (headWord (flagRow list r))) k m v) c (A ++ flagRow list r ∷ R)
-flagged-row h k m v c A R r list H = go list
-  where
-    there : (r′ : Row) → r .spot ≡ r′ .spot → r .marks ≡ r′ .marks → r .values ≡ r′ .values → (Good r → Good r′)
-        → Holds (four (set h (length A) (headWord r′)) k m v) c (A ++ r′ ∷ R)
-    there r′ s e f g =
-        changed A r r′ R h k m v m v c c H s g (H .marks ∙ ap (pad marksRoom) (marks-same A r r′ R e))
-        (H .values ∙ ap (pad valuesRoom) (values-same A r r′ R f)) refl (ap (λ l. c .marks + length l) e) (ap (λ l. c .values + length l) f)
-        (H .marks-fit) (H .values-fit)
-
-    go : (b : Bool) → Holds (four (set h (length A) (headWord (flagRow b r))) k m v) c (A ++ flagRow b r ∷ R)
-    go true = there _ refl refl refl (λ g. record { spot = g .spot; depth = g .depth; marks = g .marks; values = g .values })
-    go false = there _ refl refl refl (λ g. record { spot = g .spot; depth = g .depth; marks = g .marks; values = g .values })
-
-pub flags : (list : Bool) (row w : ℕ) (h : List ℕ) → FlagsHead list (getD h row 0) w → Flags list row h (set h row w)
-unfolding FlagsHead Flags
-flags list row w h f k m v c A R r H e =
-    let G = all-right Good A (r ∷ R) (H .good) in
-    let d : r .depth < 16 = omega (arith, G .0 .depth) in
-    let q : getD h row 0 ≡ headWord r = rw e (head-at h k m v c A R r H) in
-    rw (f r d q, e) (flagged-row h k m v c A R r list H)
