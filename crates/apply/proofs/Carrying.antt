@@ -39,7 +39,8 @@ use Rattle.words.proofs.Gap.{gap-closed}
 use Rattle.descend.specs.Doing.{marksBy, withMarks, Descends}
 use Rattle.descend.proofs.Gaps.{marks-most}
 use Rattle.descend.specs.declared.Act.{Act}
-use Rattle.apply.specs.Judging.{isTaken, readyVerdict, byCounters, verdict, Stores, Newer, Parts, Tops}
+use Rattle.keeping.specs.Storing.{Stores}
+use Rattle.apply.specs.Judging.{isTaken, readyVerdict, byCounters, verdict, Newer, Parts, Tops}
 use Rattle.apply.specs.Judging.{JudgesCounters, JudgesReady, Judges, CarriesWay, CarriesOut, TakesOn, Applies}
 use Rattle.apply.specs.declared.Judgement.{Judgement}
 use Rattle.apply.specs.declared.Judgement.the-variants as J

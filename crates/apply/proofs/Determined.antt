@@ -11,7 +11,8 @@ use Rattle.message.specs.declared.Operation.{Operation}
 use Rattle.tables.specs.Words.{Tables}
 use Rattle.tables.specs.Once.{held-once}
 use Rattle.tables.specs.declared.Counts.{Counts}
-use Rattle.apply.specs.Judging.{isTaken, Stores, Applies}
+use Rattle.keeping.specs.Storing.{Stores}
+use Rattle.apply.specs.Judging.{isTaken, Applies}
 use Rattle.apply.specs.declared.Outcome.{Outcome}
 
 -- two outcomes

@@ -29,7 +29,8 @@ use Rattle.tables.specs.declared.Counts.{Counts}
 use Rattle.tables.specs.declared.Position.{Position}
 use Rattle.forecast.specs.Weighs.{Weighs, Weighed}
 use Rattle.forecast.specs.declared.Weight.{Weight}
-use Rattle.apply.specs.Judging.{Small, hasRoom, goesDown, readyVerdict, topPosition, Stores, Newer, Parts, JudgesWay, JudgesReady}
+use Rattle.keeping.specs.Storing.{Stores}
+use Rattle.apply.specs.Judging.{Small, hasRoom, goesDown, readyVerdict, topPosition, Newer, Parts, JudgesWay, JudgesReady}
 use Rattle.apply.specs.declared.Judgement.{Judgement}
 use Rattle.apply.specs.declared.Judgement.the-variants as J
 use Rattle.apply.proofs.Words.{take-pad, words-count, down-pad}

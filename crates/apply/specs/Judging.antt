@@ -12,7 +12,6 @@ use Rattle.meaning.specs.Apply.{apply}
 use Rattle.meaning.specs.Limits.{fits}
 use Rattle.meaning.specs.Judge.{notAbove, repeated, ownDepsBehind, astray, downward}
 use Rattle.meaning.specs.Receive.{readyIn}
-use Rattle.meaning.specs.Sound.{Sound}
 use Rattle.meaning.specs.Valid.{ValidOperation}
 use Rattle.meaning.specs.Ways.{steps}
 use Rattle.meaning.specs.Ways as M
@@ -28,6 +27,7 @@ use Rattle.tables.specs.Holding.{Holds, four}
 use Rattle.tables.specs.Standing.{behind}
 use Rattle.tables.specs.declared.Counts.{Counts}
 use Rattle.tables.specs.declared.Position.{Position}
+use Rattle.keeping.specs.Storing.{Stores}
 use Rattle.forecast.specs.declared.Weight.{Weight}
 use Rattle.descend.specs.Doing.{isInsert}
 use Rattle.descend.specs.declared.Act.{Act}
@@ -85,13 +85,6 @@ verdict o D =
     (cond (repeated (D .seen) o) J.Repeat (cond (ownDepsBehind (D .seen) o) J.OwnDeps (cond (readyIn D o) (readyVerdict o D) J.Early)))
 
 -- The promises.
-
--- memory that holds a document, as every terminal has it
-pub record Stores (T : Tables) (c : Counts) (seen : List ℕ) (D : Document) : Type 0 where
-  pub rows : Holds T c (rowsOf D)
-  pub counters : seen ≡ D .seen
-  pub sound : Sound D
-  pub limits : fits D ≡ true
 
 -- an operation that is newer than what was seen of its terminal
 abbrev pub Newer : Document → M.Operation → Type 0

@@ -30,13 +30,14 @@ use Rattle.tables.specs.Holding.{Holds, four, flagRow}
 use Rattle.tables.specs.Parts.{at-behind}
 use Rattle.tables.specs.declared.Counts.{Counts}
 use Rattle.tables.specs.declared.Position.{Position}
-use Rattle.steps.specs.Steps.{Flags, Marks, Sets}
+use Rattle.steps.specs.Steps.{Flags, Marks}
+use Rattle.values.specs.Values.{Sets}
 use Rattle.clear.specs.Clear.{Clears}
 use Rattle.descend.specs.Reach.{blockAt}
 use Rattle.descend.specs.Doing.{isDelete, givenIn, branchOf, stringKind, kindOf, partsOf, Spare, Does, Gives, Finishes}
 use Rattle.descend.specs.declared.Act.{Act}
 use Rattle.words.specs.Gap.{Leaves}
-use Rattle.steps.proofs.Placed.{placed}
+use Rattle.tables.specs.Placed.{placed}
 use Rattle.steps.proofs.Marked.{holds-gap}
 use Rattle.descend.proofs.Gaps.{marks-none, marks-all, leaves-still}
 use Rattle.descend.proofs.Entering.{block-does, row-does, marked-more, flag-marks, flag-values}

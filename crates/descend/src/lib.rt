@@ -127,7 +127,7 @@ fn give(
         let a = steps::mark_row(heads, marks, c, s, id, c.marks, n);
         let kind = kind_of(g);
         let parts = parts_of(g, words);
-        let e = steps::set_value(heads, values, a.counts, s, deps, id, kind, parts);
+        let e = values::set_value(heads, values, a.counts, s, deps, id, kind, parts);
         return WithGap {
             counts: e,
             gap: a.gap,

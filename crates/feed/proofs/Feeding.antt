@@ -10,9 +10,9 @@ use Rattle.stream.specs.Pieces.{Piece, whole, tooLong, pieces, held, CutInside,
 use Rattle.stream.specs.declared.Cut.{Cut}
 use Rattle.stream.specs.declared.Step.{Step}
 use Rattle.stream.specs.declared.Step.the-variants.{Message, TooLong, More}
-use Rattle.terminal.specs.Keeping.{Keeps}
+use Rattle.keeping.specs.Keeping.{Keeps}
 use Rattle.terminal.specs.Promises.{Receiving}
-use Rattle.terminal.specs.declared.State.{State}
+use Rattle.keeping.specs.declared.State.{State}
 use Rattle.terminal.specs.declared.Received.{Received}
 use Rattle.feed.specs.Feeding.{Takes, none, receives, passes, Took, Feeds, Rests, OneFed}
 

@@ -9,8 +9,8 @@ use Rattle.theorems.specs.Determined.{receives-once}
 use Rattle.tables.specs.Words.{Tables}
 use Rattle.stream.specs.Pieces.{Piece, whole, tooLong}
 use Rattle.stream.specs.declared.Cut.{Cut}
-use Rattle.terminal.specs.Keeping.{Keeps}
-use Rattle.terminal.specs.declared.State.{State}
+use Rattle.keeping.specs.Keeping.{Keeps}
+use Rattle.keeping.specs.declared.State.{State}
 use Rattle.feed.specs.Feeding.{Takes, none, receives, passes, Took, AllFed}
 use Rattle.feed.specs.declared.Fed.{Fed}
 use Rattle.feed.proofs.Whole.{last-handed}

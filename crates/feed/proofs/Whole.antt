@@ -25,8 +25,8 @@ use Rattle.stream.specs.Pieces.{whole, tooLong, judged, pieces, held, Moved, jo
 use Rattle.stream.specs.declared.Cut.{Cut}
 use Rattle.stream.proofs.Runs.{long-refused}
 use Rattle.stream.proofs.Moving.{grown-held}
-use Rattle.terminal.specs.Keeping.{Keeps}
-use Rattle.terminal.specs.declared.State.{State}
+use Rattle.keeping.specs.Keeping.{Keeps}
+use Rattle.keeping.specs.declared.State.{State}
 use Rattle.feed.specs.Feeding.{Takes, none, receives, passes, Took, AllFed}
 use Rattle.feed.specs.Whole.{ReadsOn, FeedsAll, onward, ends, Unread, Merged, Prints}
 use Rattle.feed.specs.declared.Fed.{Fed}

@@ -11,8 +11,8 @@ use Rattle.meaning.specs.declared.Receipt.{Receipt}
 use Rattle.tables.specs.Words.{Tables}
 use Rattle.stream.specs.Pieces.{Piece, whole, tooLong, pieces, held, CutInside}
 use Rattle.stream.specs.declared.Cut.{Cut}
-use Rattle.terminal.specs.Keeping.{Keeps}
-use Rattle.terminal.specs.declared.State.{State}
+use Rattle.keeping.specs.Keeping.{Keeps}
+use Rattle.keeping.specs.declared.State.{State}
 use Rattle.feed.specs.declared.One.{One}
 use Rattle.feed.specs.declared.Fed.{Fed}
 

@@ -15,8 +15,8 @@ use Rattle.meaning.specs.declared.Saved.the-variants.{Written}
 use Rattle.tables.specs.Words.{Tables}
 use Rattle.stream.specs.Pieces.{held}
 use Rattle.stream.specs.declared.Cut.{Cut}
-use Rattle.terminal.specs.Keeping.{Keeps}
-use Rattle.terminal.specs.declared.State.{State}
+use Rattle.keeping.specs.Keeping.{Keeps}
+use Rattle.keeping.specs.declared.State.{State}
 use Rattle.feed.specs.Feeding.{AllFed}
 use Rattle.feed.specs.declared.Fed.{Fed}
 

@@ -1,8 +1,8 @@
 // A terminal that is fed a stream of messages, part by part. Document 01, "The saved sheet", last paragraph: the messages are received one
 // after another, and refused ones are passed over. Each function is safe on any memory.
+use keeping::State;
 use stream::Cut;
 use stream::Step;
-use terminal::State;
 ghost use mathlib.Core.Path.{_≡_};
 ghost use Rattle.tables.specs.Holding.{four};
 ghost use Rattle.stream.specs.Pieces.{CutInside};

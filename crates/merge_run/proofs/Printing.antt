@@ -14,7 +14,7 @@ use Rattle.theorems.specs.Numbered.{saved-settled}
 use Rattle.theorems.specs.Sizes.{sheet-short}
 use Rattle.tables.specs.Words.{Tables}
 use Rattle.tables.specs.Holding.{four}
-use Rattle.terminal.specs.declared.State.{State}
+use Rattle.keeping.specs.declared.State.{State}
 use Rattle.sheet.specs.Saving.{Saving}
 use Rattle.sheet.proofs.Saved.{sound-valid}
 use Rattle.feed.specs.Whole.{Merged, Prints}

@@ -9,8 +9,8 @@ use Rattle.meaning.specs.Receive.{newTerminal}
 use Rattle.tables.specs.Words.{Tables}
 use Rattle.stream.specs.Pieces.{CutInside, joined}
 use Rattle.stream.specs.declared.Cut.{Cut}
-use Rattle.terminal.specs.Keeping.{Keeps}
-use Rattle.terminal.specs.declared.State.{State}
+use Rattle.keeping.specs.Keeping.{Keeps}
+use Rattle.keeping.specs.declared.State.{State}
 use Rattle.feed.specs.Feeding.{AllFed}
 use Rattle.feed.specs.Whole.{ReadsOn, FeedsAll, onward, ends, Merged}
 use Rattle.feed.specs.declared.Fed.{Fed}

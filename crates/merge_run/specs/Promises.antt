@@ -14,7 +14,7 @@ use Rattle.meaning.specs.Promises.{Merges}
 use Rattle.tables.specs.Words.{Tables}
 use Rattle.stream.specs.Pieces.{CutInside, joined}
 use Rattle.stream.specs.declared.Cut.{Cut}
-use Rattle.terminal.specs.declared.State.{State}
+use Rattle.keeping.specs.declared.State.{State}
 use Rattle.feed.specs.Whole.{ReadsOn, FeedsAll}
 use Rattle.feed.specs.Whole as Whole
 use Rattle.merge_run.specs.declared.Input.{Input}

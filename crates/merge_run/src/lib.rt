@@ -1,10 +1,10 @@
 // What the program `merge` of document 01 does: it reads messages one after another from standard input, receives them into an empty
 // document, passes over refused ones, and prints the sheet. However long the input is, no more of it is held than 4,096 bytes.
+use keeping::State;
 use libc::STDIN_FILENO;
 use libc::STDOUT_FILENO;
 use meaning::Saved;
 use stream::Cut;
-use terminal::State;
 ghost use Prim.Native.Nat.{_-_, _≤_, _<_};
 ghost use mathlib.Core.Path.{_≡_};
 ghost use mathlib.Core.Bool.{true};
@@ -12,7 +12,7 @@ ghost use lib.ListN.{length, take};
 ghost use Rattle.meaning.specs.Receive.{newTerminal};
 ghost use Rattle.tables.specs.Holding.{four};
 ghost use Rattle.stream.specs.Pieces.{CutInside};
-ghost use Rattle.terminal.specs.Keeping.{Keeps};
+ghost use Rattle.keeping.specs.Keeping.{Keeps};
 ghost use Rattle.merge_run.specs.Promises.{Came, ReadOn, TookAll, KeepsMerged, SheetOf, Printable};
 
 // The bytes that are read; whether no byte follows them; whether reading has failed.

@@ -1,12 +1,12 @@
 // The program `replay`: answers the calls `reset`, `receive` and `save` of a replay script (docs/REPLAY.md), read from standard input. The
 // gate compares what it prints with the second implementation's answers.
+use keeping::State;
 use libc::STDIN_FILENO;
 use libc::STDOUT_FILENO;
 use meaning::Receipt;
 use meaning::Saved;
 use readers::Past;
 use stream::Cut;
-use terminal::State;
 ghost use Prim.Native.Nat.{_≤_, _<_};
 ghost use mathlib.Core.Path.{_≡_};
 ghost use mathlib.Core.Bool.{true};

@@ -1,9 +1,4 @@
 pub mod Heads
-pub mod Changed
+pub mod Flags
 pub mod Opened
-pub mod Placed
 pub mod Marked
-pub mod Values
-pub mod Dropped
-pub mod Added
-pub mod Set

@@ -24,8 +24,8 @@ use Rattle.tables.specs.declared.Counts.{Counts}
 use Rattle.tables.specs.declared.Position.{Position}
 use Rattle.steps.specs.Steps.{Marks}
 use Rattle.words.proofs.Padded.{put-more, put-pad}
-use Rattle.steps.proofs.Changed.{marks-between, values-same, changed}
-use Rattle.steps.proofs.Placed.{placed}
+use Rattle.tables.specs.Changed.{marks-between, values-same, changed}
+use Rattle.tables.specs.Placed.{placed}
 
 module _ (A R : List Row) (r : Row) (m : List ℕ) (e : m ≡ pad marksRoom (marksOf (A ++ r ∷ R))) (from : ℕ) (f : from ≡ marksIn A) where
   -- the row's marks

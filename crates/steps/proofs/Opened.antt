@@ -17,7 +17,7 @@ use Rattle.tables.specs.Holding.{headsRoom, keysRoom, marksRoom, valuesRoom, Go
 use Rattle.tables.specs.Parts.{marks-of-append, values-of-append, all-left, all-right, all-both, heads-long, keys-long}
 use Rattle.tables.specs.declared.Counts.{Counts}
 use Rattle.steps.specs.Steps.{Opens}
-use Rattle.steps.proofs.Changed.{marks-between, values-between, rows-between}
+use Rattle.tables.specs.Changed.{marks-between, values-between, rows-between}
 use Rattle.words.proofs.Padded.{inserted-pad}
 
 -- Among rows that tables hold there is room for one more.

@@ -1,10 +1,7 @@
-// The single steps over the document's tables that change one row, or open one. Each is safe on any memory: a place, a
+// The single steps over the document's tables that open a row, mark it or set a flag. Each is safe on any memory: a place, a
 // count or a table that doesn't fit is found before the first word is written. What they promise of tables that hold rows says specs/Steps.
-mod value;
-
 use tables::Counts;
 use tables::Position;
-pub use value::set_value;
 use words::open;
 use words::rank;
 use words::write3;

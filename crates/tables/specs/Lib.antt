@@ -6,6 +6,8 @@ pub mod Standing
 pub mod Holding
 pub mod Parts
 pub mod Stands
+pub mod Changed
+pub mod Placed
 pub mod Values
 pub mod Saying
 pub mod Once

@@ -20,7 +20,7 @@ use Rattle.meaning.specs.Receive.{judgeEarly, judge, finish, receive, settle}
 use Rattle.meaning.specs.Promises.{Says, says, saysNothing}
 use Rattle.meaning.specs.declared.Receipt.{Receipt}
 use Rattle.meaning.specs.declared.Receipt.the-variants as R
-use Rattle.theorems.specs.Invariant.{Sent, Steady}
+use Rattle.theorems.specs.Invariant.{Sent}
 use Rattle.theorems.specs.Members.{all-put}
 use Rattle.tables.specs.Words.{Tables}
 use Rattle.message.specs.Means.{Means}
@@ -32,25 +32,15 @@ use Rattle.apply.specs.declared.Judgement.{Judgement}
 use Rattle.apply.specs.declared.Judgement.the-variants as J
 use Rattle.apply.specs.declared.Outcome.{Outcome}
 use Rattle.waiting.specs.Waits.{idOf, TellsWaits, Puts}
-use Rattle.terminal.specs.declared.State.{State}
-use Rattle.terminal.specs.declared.Settled.{Settled}
+use Rattle.keeping.specs.declared.State.{State}
+use Rattle.settling.specs.declared.Settled.{Settled}
 use Rattle.terminal.specs.declared.Received.{Received}
 use Rattle.terminal.specs.Verdicts.{isEarly, refusalOf}
-use Rattle.terminal.specs.Keeping.{Keeps}
-use Rattle.terminal.specs.Settling.{Rests, Settles}
+use Rattle.keeping.specs.Keeping.{Keeps}
+use Rattle.settling.specs.Settling.{Rests, Settles}
 use Rattle.terminal.specs.Promises.{Comes, Awaits, Kept, Receiving}
-use Rattle.terminal.proofs.Sweeping.{counting}
-use Rattle.terminal.proofs.Verdicts.{by}
-
--- a terminal that is kept is steady
-pub keeps-steady : (T : Tables) (t : List ℕ) (s : State) (X : Terminal) → Keeps T t s X → Steady X
-keeps-steady T t s X K = record {
-  sound = K .document .sound;
-  room = K .document .limits;
-  ascends = K .waiting .ascending;
-  sent = K .sent;
-  few = omega (arith, K .waiting .count, K .waiting .fit);
-}
+use Rattle.settling.proofs.Sweeping.{counting}
+use Rattle.settling.proofs.Verdicts.{by}
 
 -- What a verdict on the document is for the terminal; e is what an early operation comes to.
 abbrev sort : Verdict → Judgement → Verdict

@@ -1,4 +1,2 @@
 pub mod Verdicts
-pub mod Keeping
-pub mod Settling
 pub mod Promises

@@ -16,8 +16,8 @@ use Rattle.words.specs.Words.{pad}
 use Rattle.waiting.specs.Waits.{room}
 use Rattle.message.specs.Means.{Means}
 use Rattle.message.specs.declared.Operation as M
-use Rattle.terminal.specs.Keeping.{Keeps}
-use Rattle.terminal.specs.declared.State.{State}
+use Rattle.keeping.specs.Keeping.{Keeps}
+use Rattle.keeping.specs.declared.State.{State}
 use Rattle.terminal.specs.declared.Received.{Received}
 
 -- with this state words that are all 0 keep a new terminal

@@ -1,21 +1,10 @@
--- Verdicts sorted: which of them drop a waiting operation, and what a refusal answers.
+-- Verdicts sorted: which of them let an operation wait, and what a refusal answers.
 -- Assumes nothing: these are definitions.
 use mathlib.Core.Bool.{Bool, true, false}
 use Rattle.meaning.specs.declared.Receipt.{Receipt}
 use Rattle.meaning.specs.declared.Receipt.the-variants as R
 use Rattle.apply.specs.declared.Judgement.{Judgement}
 use Rattle.apply.specs.declared.Judgement.the-variants as J
-
--- 3, 4, 8, 9
-abbrev pub deadly : Judgement → Bool
-deadly J.Taken = false
-deadly J.Early = false
-deadly J.Counter = false
-deadly J.Repeat = true
-deadly J.OwnDeps = true
-deadly J.NoElement = true
-deadly J.NotSmaller = true
-deadly J.NoRoom = false
 
 abbrev pub isEarly : Judgement → Bool
 isEarly J.Taken = false

@@ -1,9 +1,9 @@
 // Document 01, "What is answered": a terminal in lent memory receives messages in any order. A message that comes too early waits; after
 // one that is applied the waiting ones are settled. Each function is safe on any memory.
-mod settling;
 mod sorts;
 
 use apply::is_taken;
+use keeping::State;
 use meaning::Counters;
 use meaning::Receipt;
 use message::Operation;
@@ -13,33 +13,6 @@ use sorts::refusal;
 use tables::Counts;
 ghost use Rattle.tables.specs.Holding.{four};
 ghost use Rattle.terminal.specs.Promises.{Empties, Awaits, Receiving};
-
-// What a terminal keeps beside the lent tables.
-pub struct State {
-    pub counts: Counts,
-    pub seen: Counters,
-    pub waiting: usize,
-}
-
-// The dead are gone; the first of the others that can be applied, if one was found.
-struct Swept {
-    state: State,
-    found: bool,
-    able: usize,
-}
-
-// A round of settling: whether an operation was applied, and how many were dropped.
-struct Rounded {
-    state: State,
-    applied: bool,
-    dropped: u64,
-}
-
-struct Settled {
-    state: State,
-    applied: u64,
-    dropped: u64,
-}
 
 // What receiving comes to.
 pub struct Received {

@@ -1,24 +1,8 @@
-// Verdicts sorted: which drop a waiting message, which let it wait, and what a refusal answers.
+// Verdicts sorted: which let a message wait, and what a refusal answers.
 use apply::Judgement;
 use meaning::Receipt;
 ghost use mathlib.Core.Path.{_≡_};
-ghost use Rattle.terminal.specs.Verdicts.{deadly, isEarly, refusalOf};
-
-// 3, 4, 8, 9.
-pub fn is_dead(j: Judgement) -> bool
-    ensures { λ r. ⌜ r ≡ deadly j ⌝ }
-{
-    match j {
-        Judgement::Repeat => true,
-        Judgement::OwnDeps => true,
-        Judgement::NoElement => true,
-        Judgement::NotSmaller => true,
-        Judgement::Taken => false,
-        Judgement::Early => false,
-        Judgement::Counter => false,
-        Judgement::NoRoom => false,
-    }
-}
+ghost use Rattle.terminal.specs.Verdicts.{isEarly, refusalOf};
 
 pub fn is_early(j: Judgement) -> bool
     ensures { λ r. ⌜ r ≡ isEarly j ⌝ }

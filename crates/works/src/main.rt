@@ -2,10 +2,10 @@
 // then come as many turns as the number of that `save` says. A turn takes a copy of the terminal, receives the messages behind the `save`
 // and, if a `save` ends the script, saves into a buffer of that many bytes. Says how many places, marks, values and waiting messages there
 // are at the end, and how many bytes the last save wrote.
+use keeping::State;
 use libc::STDIN_FILENO;
 use libc::STDOUT_FILENO;
 use meaning::Saved;
-use terminal::State;
 
 // Where the next call stands, and the terminal's state.
 struct Played {

@@ -2,7 +2,8 @@
 use native.Mathlib.Omega.{arith}
 use borrow.Author.Needs.{needs}
 use Rattle.steps.specs.Steps.{Flags}
-use Rattle.steps.proofs.Changed.{row-in, flags}
+use Rattle.tables.specs.Changed.{row-in}
+use Rattle.steps.proofs.Flags.{flags}
 use Rattle.steps.proofs.flag_row.Statement.{statement}
 use Rattle.steps.proofs.flag_row.Tie as tie
 

@@ -2,7 +2,7 @@
 use native.Mathlib.Omega.{arith}
 use borrow.Author.Needs.{needs}
 use Rattle.steps.specs.Steps.{Marks}
-use Rattle.steps.proofs.Placed.{placed}
+use Rattle.tables.specs.Placed.{placed}
 use Rattle.steps.proofs.Marked.{marks}
 use Rattle.steps.proofs.mark_row.Statement.{statement}
 use Rattle.steps.proofs.mark_row.Tie as tie

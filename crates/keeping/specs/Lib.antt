@@ -1,0 +1,3 @@
+pub mod Storing
+pub mod Keeping
+pub mod Steady

@@ -1,0 +1,51 @@
+-- What the verdict on an operation that may wait says: which are dead, which can be applied.
+-- Assumes nothing.
+use mathlib.Core.Path.{_≡_, refl}
+use mathlib.Core.Bool.{Bool, true, false, cond, _&&_, _||_, false≢true, true≢false}
+use Rattle.meaning.specs.Places.{Document}
+use Rattle.meaning.specs.Ways.{Operation}
+use Rattle.meaning.specs.Apply.{apply}
+use Rattle.meaning.specs.Limits.{fits}
+use Rattle.meaning.specs.Judge.{notAbove, repeated, ownDepsBehind, astray, downward}
+use Rattle.meaning.specs.Receive.{readyIn, dead, able}
+use Rattle.apply.specs.Judging.{isTaken, readyVerdict, verdict}
+use Rattle.apply.specs.declared.Judgement.{Judgement}
+use Rattle.apply.specs.declared.Judgement.the-variants as J
+use Rattle.settling.specs.Verdicts.{deadly}
+
+-- the verdict by the tests 3, 4, ready, 8, 9, 10
+abbrev pub by : Bool → Bool → Bool → Bool → Bool → Bool → Judgement
+by r c d a w f = cond r J.Repeat (cond c J.OwnDeps (cond d (cond a J.NoElement (cond w J.NotSmaller (cond f J.Taken J.NoRoom))) J.Early))
+
+drops : (r c d a w f : Bool) → deadly (by r c d a w f) ≡ (r || c || (d && (a || w)))
+drops true c d a w f = refl
+drops false true d a w f = refl
+drops false false true true w f = refl
+drops false false true false true f = refl
+drops false false true false false true = refl
+drops false false true false false false = refl
+drops false false false a w f = refl
+
+takes : (r c d a w f : Bool) → (r || c || (d && (a || w))) ≡ false → isTaken (by r c d a w f) ≡ (d && f)
+takes true c d a w f e = absurd (true≢false e)
+takes false true d a w f e = absurd (true≢false e)
+takes false false true true w f e = absurd (true≢false e)
+takes false false true false true f e = absurd (true≢false e)
+takes false false true false false true e = refl
+takes false false true false false false e = refl
+takes false false false a w f e = refl
+
+module _ (D : Document) (o : Operation) (above : notAbove o ≡ false) where
+  pub deadly-verdict : deadly (verdict o D) ≡ dead D o
+  unfolding verdict readyVerdict dead
+  deadly-verdict =
+      rw above (drops (repeated (D .seen) o) (ownDepsBehind (D .seen) o) (readyIn D o) (astray D o) (downward o) (fits (apply o D)))
+
+  pub taken-verdict : dead D o ≡ false → isTaken (verdict o D) ≡ able D o
+  unfolding verdict readyVerdict dead able
+  taken-verdict e =
+      rw above (takes (repeated (D .seen) o) (ownDepsBehind (D .seen) o) (readyIn D o) (astray D o) (downward o) (fits (apply o D)) e)
+
+  pub early-verdict : repeated (D .seen) o ≡ false → ownDepsBehind (D .seen) o ≡ false → readyIn D o ≡ false → verdict o D ≡ J.Early
+  unfolding verdict
+  early-verdict r k d = rw (above, r, k, d)

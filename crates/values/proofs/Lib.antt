@@ -1,0 +1,4 @@
+pub mod Values
+pub mod Dropped
+pub mod Added
+pub mod Set
