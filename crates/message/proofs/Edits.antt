@@ -23,7 +23,7 @@ use Rattle.message.specs.Steps.{Step, key, element, caret, stepText, all
 use Rattle.message.specs.Steps.{Act, assigns, inserts, deletes, actText, ValidAct, acts}
 use Rattle.message.specs.Reads.{Tail, atKey, atElement, atCaret, ways, WayTook}
 use Rattle.message.specs.Reads.{ReadsWay, actDeed, actWords, DeedTook, ReadsDeed, suits}
-use Rattle.message.specs.Promises.{ValidLines, ReadsEdit}
+use Rattle.message.specs.Promises.{noEdit, ValidLines, ReadsEdit}
 use Rattle.message.specs.declared.WayRead.{WayRead}
 use Rattle.message.specs.declared.DeedRead.{DeedRead}
 use Rattle.message.specs.declared.EditRead.{EditRead}
@@ -260,7 +260,7 @@ whole s a l e = e ∙ (apart-text (l .top) (l .way) ∙ sym (append-nil (parts .
 nothing : (s : List ℕ) (a : ℕ) → Never parts s a → Unsaid (drop a s)
 nothing s a h l v e = h .not (apart (l .top) (l .way)) [] (apart-valid (l .top) (l .way) v) tt (whole s a l e)
 
-pub refused : (bytes : List ℕ) (r : EditRead) → r .ok ≡ false → Unsaid bytes → ReadsEdit bytes r
+pub refused : (bytes : List ℕ) (r : EditRead) → r ≡ noEdit → Unsaid bytes → ReadsEdit bytes r
 refused bytes r e n = record { says = saysNothing n; answers = e }
 
 module _ (s : List ℕ) (a : ℕ) where

@@ -4,3 +4,4 @@ pub mod Deeds
 pub mod Edits
 pub mod Messages
 pub mod Places
+pub mod Settled

@@ -2,7 +2,7 @@
 -- Assumes nothing.
 use Prim.Native.Nat.{ℕ}
 use mathlib.Core.Path.{_≡_, refl, sym, ap, _∙_, subst}
-use mathlib.Core.Bool.{true, false}
+use mathlib.Core.Bool.{true, false, false≢true}
 use mathlib.Core.List.{List, _++_, append-assoc}
 use lib.ListN.{drop}
 use Rattle.meaning.specs.Ascii.{ascii}
@@ -17,7 +17,7 @@ use Rattle.readers.specs.Reads.{ids, counters, either, ReadsCounters}
 use Rattle.readers.specs.declared.CountersRead.{CountersRead}
 use Rattle.message.specs.Means.{MeansEdit}
 use Rattle.message.specs.Reads.{heads, ReadsHead}
-use Rattle.message.specs.Promises.{Answers, ValidLines, ReadsEdit, ReadsMessage}
+use Rattle.message.specs.Promises.{noEdit, noMessage, Answers, ValidLines, ReadsEdit, ReadsMessage}
 use Rattle.message.specs.declared.HeadRead.{HeadRead}
 use Rattle.message.specs.declared.EditRead.{EditRead}
 use Rattle.message.specs.declared.MessageRead.{MessageRead}
@@ -95,7 +95,7 @@ head-text o =
 head-valid : (o : M.Operation) → ValidOperation o → heads .Valid (headOf o)
 head-valid o v = (tt, (v .id, (tt, (v .deps, tt))))
 
-pub no-message : (s : List ℕ) (h : HeadRead) (r : MessageRead) → h .ok ≡ false → ReadsHead s h → r .ok ≡ false → ReadsMessage s r
+pub no-message : (s : List ℕ) (h : HeadRead) (r : MessageRead) → h .ok ≡ false → ReadsHead s h → r ≡ noMessage → ReadsMessage s r
 no-message s h r e k f =
     record {
       says = saysNothing (λ o v q. never .not (headOf o) (editText (o .top) (o .way)) (head-valid o v) tt (q ∙ head-text o));
@@ -105,31 +105,39 @@ no-message s h r e k f =
     never : Never heads s 0
     never = subst (λ b. either b (Took heads s 0 (tt, (h .id, (tt, (h .deps .at, tt)))) (h .next)) (Never heads s 0)) e k
 
-pub a-message : (s : List ℕ) (h : HeadRead) → h .ok ≡ true → ReadsHead s h → (r : EditRead) → ReadsEdit (drop (h .next) s) r
-    → ReadsMessage s (record { ok = r .ok; op = record { id = h .id; deps = h .deps; way = r .way; deed = r .deed; words = r .words } })
-a-message s h e k r d = go (d .says) (d .answers)
-  where
-    head : Took heads s 0 (tt, (h .id, (tt, (h .deps .at, tt)))) (h .next)
-    head = subst (λ b. either b (Took heads s 0 (tt, (h .id, (tt, (h .deps .at, tt)))) (h .next)) (Never heads s 0)) e k
+-- the edit's lines behind a head say something, and with the head they are a message; or they say nothing, and the whole is none
+module _ (s : List ℕ) (h : HeadRead) (e : h .ok ≡ true) (k : ReadsHead s h) (r : EditRead) (d : ReadsEdit (drop (h .next) s) r) where
+  head : Took heads s 0 (tt, (h .id, (tt, (h .deps .at, tt)))) (h .next)
+  head = subst (λ b. either b (Took heads s 0 (tt, (h .id, (tt, (h .deps .at, tt)))) (h .next)) (Never heads s 0)) e k
 
-    answer : MessageRead
-    answer = record { ok = r .ok; op = record { id = h .id; deps = h .deps; way = r .way; deed = r .deed; words = r .words } }
+  abbrev Edited : Says ValidLines linesOf (drop (h .next) s) → Type 0
+  Edited w = Answers (λ l. MeansEdit (r .way) (r .deed) (r .words) (l .top) (l .way)) (r ≡ noEdit) (r .ok) w
 
-    go : (w : Says ValidLines linesOf (drop (h .next) s)) → Answers (λ l. MeansEdit (r .way) (r .deed) (r .words) (l .top) (l .way))
-        (r .ok) w
-        → ReadsMessage s answer
-    go (says l v q) p =
-        let o : M.Operation = record { id = h .id; deps = h .deps .at; top = l .top; way = l .way } in
-        record {
-          says =
-              says o (record { id = head .valid .1 .0; deps = head .valid .1 .1 .1 .0; edit = v })
-              (head .text ∙ (ap (λ t. heads .text (headOf o) ++ t) q ∙ sym (head-text o)));
-          answers = (p .0, record { id = refl; deps = refl; edit = p .1 });
-        }
-    go (saysNothing n) p =
-        record {
-          says = saysNothing (λ o v q.
-              n (record { top = o .top; way = o .way }) (v .edit)
-              (sym (head .only (headOf o) (editText (o .top) (o .way)) (head-valid o v) tt (q ∙ head-text o) .1)));
-          answers = p;
-        }
+  pub a-message : r .ok ≡ true
+      → ReadsMessage s (record { ok = true; op = record { id = h .id; deps = h .deps; way = r .way; deed = r .deed; words = r .words } })
+  a-message ok = go (d .says) (d .answers)
+    where
+      go : (w : Says ValidLines linesOf (drop (h .next) s)) → Edited w
+          → ReadsMessage s (record { ok = true; op = record { id = h .id; deps = h .deps; way = r .way; deed = r .deed; words = r .words } })
+      go (says l v q) p =
+          let o : M.Operation = record { id = h .id; deps = h .deps .at; top = l .top; way = l .way } in
+          record {
+            says =
+                says o (record { id = head .valid .1 .0; deps = head .valid .1 .1 .1 .0; edit = v })
+                (head .text ∙ (ap (λ t. heads .text (headOf o) ++ t) q ∙ sym (head-text o)));
+            answers = (refl, record { id = refl; deps = refl; edit = p .1 });
+          }
+      go (saysNothing n) p = absurd (false≢true (sym (ap (λ r. r .ok) p) ∙ ok))
+
+  pub half-message : r .ok ≡ false → (m : MessageRead) → m ≡ noMessage → ReadsMessage s m
+  half-message bad m f = go (d .says) (d .answers)
+    where
+      go : (w : Says ValidLines linesOf (drop (h .next) s)) → Edited w → ReadsMessage s m
+      go (says l v q) p = absurd (false≢true (sym bad ∙ p .0))
+      go (saysNothing n) p =
+          record {
+            says = saysNothing (λ o v q.
+                n (record { top = o .top; way = o .way }) (v .edit)
+                (sym (head .only (headOf o) (editText (o .top) (o .way)) (head-valid o v) tt (q ∙ head-text o) .1)));
+            answers = f;
+          }

@@ -18,7 +18,7 @@ use Rattle.readers.specs.Reads.{either}
 use Rattle.message.specs.Means.{elementWords, trailWords, pad, MeansPlace}
 use Rattle.message.specs.Steps.{Step, key, element, caret, stepText, allText, stepWords, allWords, Open}
 use Rattle.message.specs.Reads.{Tail, atKey, atElement, atCaret, ways, WayTook, ReadsWay}
-use Rattle.message.specs.Promises.{Answers, ReadsPlaceWay, ReadsKeysWay, ReadsElementWay}
+use Rattle.message.specs.Promises.{noPlace, Answers, ReadsPlaceWay, ReadsKeysWay, ReadsElementWay}
 use Rattle.message.specs.declared.WayRead.{WayRead}
 use Rattle.message.specs.declared.PlaceRead.{PlaceRead}
 use Rattle.message.proofs.Trails.{open-good}
@@ -91,7 +91,7 @@ apart-valid w v =
 abbrev Unsaid : List ℕ → Type 0
 Unsaid bytes = (w : PlaceWay) → ValidPlaceWay w → bytes ≡ placeWayText w → ⊥
 
-pub refused : (s : List ℕ) (r : PlaceRead) → r .ok ≡ false → Unsaid s → ReadsPlaceWay s r
+pub refused : (s : List ℕ) (r : PlaceRead) → r ≡ noPlace → Unsaid s → ReadsPlaceWay s r
 refused s r e n = record { says = saysNothing n; answers = e }
 
 module _ (s : List ℕ) (r : WayRead) (k : ReadsWay s 0 r) where
@@ -178,7 +178,7 @@ module _ (s : List ℕ) (some : length s ≡ 0 → ⊥) (r : PlaceRead) where
   empty : s ≡ [] → ⊥
   empty e = some (ap length e)
 
-  pub no-brace : (getD s (length s - 1) 0 ≡ byte "{" → ⊥) → r .ok ≡ false → ReadsKeysWay s r
+  pub no-brace : (getD s (length s - 1) 0 ≡ byte "{" → ⊥) → r ≡ noPlace → ReadsKeysWay s r
   unfolding keysWayText
   no-brace h e = record { says = saysNothing none; answers = e }
     where
@@ -193,7 +193,7 @@ module _ (s : List ℕ) (some : length s ≡ 0 → ⊥) (r : PlaceRead) where
       f : s ≡ take (length s - 1) s ++ ascii "{"
       f = front s (byte "{") some h
 
-      go : (d : Says ValidPlaceWay placeWayText (take (length s - 1) s)) → Answers (MeansPlace (r .way)) (r .ok) d → ReadsKeysWay s r
+      go : (d : Says ValidPlaceWay placeWayText (take (length s - 1) s)) → Answers (MeansPlace (r .way)) (r ≡ noPlace) (r .ok) d → ReadsKeysWay s r
       go (says w v e) a = record { says = says (ofPlace w) v (f ∙ ap (λ t. t ++ ascii "{") e); answers = a }
       go (saysNothing n) a = record { says = saysNothing none; answers = a }
         where
@@ -201,7 +201,7 @@ module _ (s : List ℕ) (some : length s ≡ 0 → ⊥) (r : PlaceRead) where
           none ofRoot v q = empty q
           none (ofPlace w) v q = n w v (append-cancel-right (take (length s - 1) s) (placeWayText w) (ascii "{") (sym f ∙ q))
 
-  pub no-bracket : (getD s (length s - 1) 0 ≡ byte "[" → ⊥) → r .ok ≡ false → ReadsElementWay s r
+  pub no-bracket : (getD s (length s - 1) 0 ≡ byte "[" → ⊥) → r ≡ noPlace → ReadsElementWay s r
   unfolding elementWayText
   no-bracket h e = record { says = saysNothing (λ w v q. h (last-byte (placeWayText w) (byte "[") s q)); answers = e }
 
@@ -212,7 +212,7 @@ module _ (s : List ℕ) (some : length s ≡ 0 → ⊥) (r : PlaceRead) where
       f : s ≡ take (length s - 1) s ++ ascii "["
       f = front s (byte "[") some h
 
-      go : (d : Says ValidPlaceWay placeWayText (take (length s - 1) s)) → Answers (MeansPlace (r .way)) (r .ok) d → ReadsElementWay s r
+      go : (d : Says ValidPlaceWay placeWayText (take (length s - 1) s)) → Answers (MeansPlace (r .way)) (r ≡ noPlace) (r .ok) d → ReadsElementWay s r
       go (says w v e) a = record { says = says w v (f ∙ ap (λ t. t ++ ascii "[") e); answers = a }
       go (saysNothing n) a =
           record {
@@ -221,7 +221,7 @@ module _ (s : List ℕ) (some : length s ≡ 0 → ⊥) (r : PlaceRead) where
           }
 
 -- no bytes name no element
-pub no-bytes : (s : List ℕ) (r : PlaceRead) → length s ≡ 0 → r .ok ≡ false → ReadsElementWay s r
+pub no-bytes : (s : List ℕ) (r : PlaceRead) → length s ≡ 0 → r ≡ noPlace → ReadsElementWay s r
 unfolding elementWayText
 no-bytes s r h e =
     record { says = saysNothing (λ w v q. omega (arith, ap length q, length-append (placeWayText w) (ascii "["))); answers = e }

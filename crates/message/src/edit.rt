@@ -7,11 +7,10 @@ use crate::ways::take_way;
 use readers::GivenRead;
 use readers::Past;
 ghost use mathlib.Core.Path.{_≡_};
-ghost use mathlib.Core.Bool.{false};
 ghost use lib.ListN.{drop};
 ghost use Rattle.decimal.specs.Powers.{powersOfTen};
 ghost use Rattle.message.specs.Reads.{until, ReadsValueLine, ReadsDeed, suits};
-ghost use Rattle.message.specs.Promises.{ReadsEdit};
+ghost use Rattle.message.specs.Promises.{noEdit, ReadsEdit};
 
 // A value that was read, with another answer and another place behind it.
 fn ended(v: GivenRead, ok: bool, next: usize) -> GivenRead
@@ -97,8 +96,8 @@ fn may(last: u64, deed: Deed) -> bool
     }
 }
 
-pub fn no_edit() -> EditRead
-    ensures { λ r. ⌜ r .ok ≡ false ⌝ }
+fn no_edit() -> EditRead
+    ensures { λ r. ⌜ r ≡ noEdit ⌝ }
 {
     EditRead {
         ok: false,

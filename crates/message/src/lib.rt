@@ -4,7 +4,6 @@ mod edit;
 mod ways;
 
 use edit::edit_at;
-use edit::no_edit;
 pub use edit::take_edit;
 use meaning::Counters;
 use readers::Given;
@@ -17,7 +16,7 @@ ghost use mathlib.Core.Path.{_≡_};
 ghost use mathlib.Core.Bool.{false};
 ghost use Rattle.decimal.specs.Powers.{powersOfTen};
 ghost use Rattle.message.specs.Reads.{ReadsHead};
-ghost use Rattle.message.specs.Promises.{ReadsMessage};
+ghost use Rattle.message.specs.Promises.{noMessage, ReadsMessage};
 
 // A way as words, three for a key, and the number of its keys.
 pub struct Way {
@@ -137,36 +136,46 @@ fn take_head(s: &[u8], powers: &[u64; 20]) -> HeadRead
     }
 }
 
+fn no_message() -> MessageRead
+    ensures { λ r. ⌜ r ≡ noMessage ⌝ }
+{
+    let deps = Counters { at: [0u32; 8] };
+    let way = Way {
+        keys: [0u64; 24],
+        n: 0,
+    };
+    MessageRead {
+        ok: false,
+        op: Operation {
+            id: 0,
+            deps,
+            way,
+            deed: Deed::Delete,
+            words: [0u64; 4],
+        },
+    }
+}
+
 // A message: the operation that it says.
 pub fn take_message(s: &[u8]) -> MessageRead
     ensures { λ r. ⌜ ReadsMessage (now (s .entry)) r ⌝ }
 {
     let powers = decimal::powers();
     let h = take_head(s, &powers);
-    let deps = h.deps;
     if !h.ok {
-        let x = no_edit();
-        let way = x.way;
-        let deed = x.deed;
-        let words = x.words;
-        return MessageRead {
-            ok: false,
-            op: Operation {
-                id: 0,
-                deps,
-                way,
-                deed,
-                words,
-            },
-        };
+        return no_message();
     }
     let n = h.next;
     let x = edit_at(s, n, &powers);
+    if !x.ok {
+        return no_message();
+    }
+    let deps = h.deps;
     let way = x.way;
     let deed = x.deed;
     let words = x.words;
     MessageRead {
-        ok: x.ok,
+        ok: true,
         op: Operation {
             id: h.id,
             deps,

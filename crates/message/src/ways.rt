@@ -9,7 +9,7 @@ ghost use mathlib.Core.Path.{_≡_};
 ghost use mathlib.Core.Bool.{false};
 ghost use Rattle.decimal.specs.Powers.{powersOfTen};
 ghost use Rattle.message.specs.Reads.{ReadsStep, ReadsKeyStep, ReadsListStep, ReadsWay};
-ghost use Rattle.message.specs.Promises.{ReadsPlaceWay, ReadsKeysWay, ReadsElementWay};
+ghost use Rattle.message.specs.Promises.{noPlace, ReadsPlaceWay, ReadsKeysWay, ReadsElementWay};
 
 // The key behind `{`.
 fn take_key_step(s: &[u8], a: usize) -> StepRead
@@ -133,7 +133,7 @@ pub fn take_way(s: &[u8], a: usize, powers: &[u64; 20]) -> WayRead
 }
 
 fn no_place() -> PlaceRead
-    ensures { λ r. ⌜ r .ok ≡ false ⌝ }
+    ensures { λ r. ⌜ r ≡ noPlace ⌝ }
 {
     PlaceRead {
         ok: false,

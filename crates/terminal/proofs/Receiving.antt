@@ -24,7 +24,7 @@ use Rattle.theorems.specs.Invariant.{Sent}
 use Rattle.theorems.specs.Members.{all-put}
 use Rattle.tables.specs.Words.{Tables}
 use Rattle.message.specs.Means.{Means}
-use Rattle.message.specs.Promises.{Answers, ReadsMessage}
+use Rattle.message.specs.Promises.{noMessage, Answers, ReadsMessage}
 use Rattle.message.specs.declared.Operation as M
 use Rattle.message.specs.declared.MessageRead.{MessageRead}
 use Rattle.apply.specs.Judging.{isTaken, readyVerdict, verdict, Applies}
@@ -158,7 +158,7 @@ module _ (T : Tables) (t : List ℕ) (s : State) (bytes : List ℕ) (m : Message
   pub receives-nothing : m .ok ≡ false → Receiving T t s bytes (record { answer = R.Layout; state = s }) T t
   receives-nothing f = record { receives = λ X K. go X K (M .says) (M .answers); stays = λ _. (refl, refl, refl) }
     where
-      go : (X : Terminal) → Keeps T t s X → (y : Says ValidOperation message bytes) → Answers (Means (m .op)) (m .ok) y
+      go : (X : Terminal) → Keeps T t s X → (y : Says ValidOperation message bytes) → Answers (Means (m .op)) (m ≡ noMessage) (m .ok) y
           → Kept X bytes (record { answer = R.Layout; state = s }) T t
       go X K (says o v e) a = absurd (true≢false (sym (a .0) ∙ f))
       go X K (saysNothing n) a =
@@ -169,7 +169,7 @@ module _ (T : Tables) (t : List ℕ) (s : State) (bytes : List ℕ) (m : Message
       → ((o : Operation) → ValidOperation o → Means (m .op) o → Comes U t′ r (receive o X)) → Kept X bytes r U t′
   reading X r U t′ f h = go (M .says) (M .answers)
     where
-      go : (y : Says ValidOperation message bytes) → Answers (Means (m .op)) (m .ok) y → Kept X bytes r U t′
+      go : (y : Says ValidOperation message bytes) → Answers (Means (m .op)) (m ≡ noMessage) (m .ok) y → Kept X bytes r U t′
       go (says o v e) a =
           let c = h o v (a .1) in
           record {
@@ -177,7 +177,7 @@ module _ (T : Tables) (t : List ℕ) (s : State) (bytes : List ℕ) (m : Message
             receives = record { reads = says o v e; answers = c .answers; leaves = refl };
             keeps = c .keeps;
           }
-      go (saysNothing n) a = absurd (true≢false (sym f ∙ a))
+      go (saysNothing n) a = absurd (true≢false (sym f ∙ ap (λ r. r .ok) a))
 
   module _ (ok : m .ok ≡ true) (o : Outcome) (U : Tables) (A : Applies T (s .counts) (s .seen) (m .op) o U) where
     verdict-is : (X : Terminal) → Keeps T t s X → (x : Operation) → ValidOperation x → Means (m .op) x
