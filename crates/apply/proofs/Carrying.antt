@@ -36,9 +36,10 @@ use Rattle.tables.specs.declared.Counts.{Counts}
 use Rattle.tables.specs.declared.Position.{Position}
 use Rattle.words.specs.Gap.{Gap}
 use Rattle.words.proofs.Gap.{gap-closed}
-use Rattle.descend.specs.Doing.{marksBy, withMarks, Descends}
-use Rattle.descend.proofs.Gaps.{marks-most}
-use Rattle.descend.specs.declared.Act.{Act}
+use Rattle.act.specs.Acting.{marksBy, withMarks}
+use Rattle.descend.specs.Doing.{Descends}
+use Rattle.act.proofs.Gaps.{marks-most}
+use Rattle.act.specs.declared.Act.{Act}
 use Rattle.keeping.specs.Storing.{Stores}
 use Rattle.apply.specs.Judging.{isTaken, readyVerdict, byCounters, verdict, Newer, Parts, Tops}
 use Rattle.apply.specs.Judging.{JudgesCounters, JudgesReady, Judges, CarriesWay, CarriesOut, TakesOn, Applies}

@@ -16,7 +16,7 @@ use Rattle.rows.specs.Within.{GoesOn}
 use Rattle.readers.specs.Words.{keyWords}
 use Rattle.message.specs.Means.{prevWords, wayWords, deedOf, pad}
 use Rattle.message.specs.declared.Deed.{Deed}
-use Rattle.descend.specs.Doing.{isInsert}
+use Rattle.deeds.specs.Deeds.{isInsert}
 use Rattle.apply.specs.Judging.{goesDown}
 
 pub take-pad : (n : ℕ) (w : List ℕ) → length w ≤ n → take (length w) (pad n w) ≡ w

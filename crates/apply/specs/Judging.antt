@@ -29,8 +29,8 @@ use Rattle.tables.specs.declared.Counts.{Counts}
 use Rattle.tables.specs.declared.Position.{Position}
 use Rattle.keeping.specs.Storing.{Stores}
 use Rattle.forecast.specs.declared.Weight.{Weight}
-use Rattle.descend.specs.Doing.{isInsert}
-use Rattle.descend.specs.declared.Act.{Act}
+use Rattle.deeds.specs.Deeds.{isInsert}
+use Rattle.act.specs.declared.Act.{Act}
 use Rattle.apply.specs.declared.Judgement.{Judgement}
 use Rattle.apply.specs.declared.Judgement.the-variants as J
 use Rattle.apply.specs.declared.Outcome.{Outcome}

@@ -1,5 +1,5 @@
 // An operation that is taken, carried out along its way.
-use descend::Act;
+use act::Act;
 use message::Operation;
 use tables::Counts;
 use tables::Position;

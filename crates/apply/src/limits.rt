@@ -61,5 +61,5 @@ pub fn goes_down(deed: Deed, id: u64, hi: u64, len: u64) -> bool
     if hi < id {
         return false;
     }
-    descend::is_insert(deed)
+    deeds::is_insert(deed)
 }

@@ -23,17 +23,17 @@ use Rattle.tables.specs.Standing.{behind}
 use Rattle.tables.specs.Holding.{Holds, four}
 use Rattle.tables.specs.declared.Counts.{Counts}
 use Rattle.tables.specs.declared.Position.{Position}
-use Rattle.descend.specs.Reach.{blockAt, changing}
+use Rattle.deeds.specs.Deeds.{isInsert, isDelete, mayMake, insertsHere}
+use Rattle.act.specs.Acting.{blockAt, marksBy, withMarks, Spare, Does, Finishes, Inserts}
+use Rattle.act.specs.declared.Act.{Act}
+use Rattle.act.proofs.Gaps.{marks-all, marks-most, mark-further, mark-next, leaves-still}
+use Rattle.descend.specs.Reach.{changing}
 use Rattle.descend.specs.Going.{words-long, words-none, inserts-only, goes-on, third-word, Goes, goes}
 use Rattle.words.specs.Gap.{Gap, Leaves}
 use Rattle.tables.specs.Seek.{Passes}
 use Rattle.tables.specs.Stands.{passes}
 use Rattle.tables.specs.Wants.{searchOf}
-use Rattle.descend.specs.Doing.{isInsert, isDelete, marksBy, withMarks, mayMake, insertsHere}
-use Rattle.descend.specs.Doing.{Spare, Does, Arrives, Stays, Leads}
-use Rattle.descend.specs.Doing.{Finishes, Enters, Inserts, Descends}
-use Rattle.descend.specs.declared.Act.{Act}
-use Rattle.descend.proofs.Gaps.{marks-all, marks-most, mark-further, mark-next, leaves-still}
+use Rattle.descend.specs.Doing.{Arrives, Stays, Leads, Enters, Descends}
 use Rattle.descend.specs.declared.Child.{Child}
 
 empty-list : (xs : List ℕ) → length xs ≡ 0 → xs ≡ []

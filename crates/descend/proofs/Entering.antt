@@ -1,4 +1,4 @@
--- A place that the way goes on from, and the seat of a new element, in tables that hold rows.
+-- A place that the way goes on from, in tables that hold rows.
 -- Assumes nothing.
 use Prim.Native.Nat.{ℕ, suc, _+_, _-_, _≤_, _<_}
 use native.Mathlib.Omega.{arith}
@@ -24,9 +24,12 @@ use Rattle.tables.specs.Parts.{at-behind}
 use Rattle.tables.specs.declared.Counts.{Counts}
 use Rattle.tables.specs.declared.Position.{Position}
 use Rattle.steps.specs.Steps.{Flags, Marks}
-use Rattle.descend.specs.Doing.{isDelete, Spare, Does, Enters}
-use Rattle.descend.proofs.Gaps.{marks-none, marks-all}
-use Rattle.descend.specs.declared.Act.{Act}
+use Rattle.deeds.specs.Deeds.{isDelete}
+use Rattle.act.specs.Acting.{Spare, Does}
+use Rattle.act.specs.declared.Act.{Act}
+use Rattle.act.proofs.Gaps.{marks-none, marks-all}
+use Rattle.act.proofs.Counted.{row-does, marked-more, flag-marks, flag-values}
+use Rattle.descend.specs.Doing.{Enters}
 
 -- a deed deletes where its way does
 pub deed-deletes : (w : Way) → isDelete (deedOf w) ≡ deletes w
@@ -37,62 +40,9 @@ deed-deletes (insert p a) = refl
 deed-deletes (intoMap k w) = deed-deletes w
 deed-deletes (intoList e w) = deed-deletes w
 
--- How much more there is after a change of the row r, and of the rows us behind it; A are the rows before them and R those beyond.
-pub block-does : (T U : Tables) (c e : Counts) (A R us ws : List Row) (r q : Row) (x y : ℕ) → Holds T c (A ++ r ∷ (us ++ R))
-    → Holds U e (A ++ q ∷ (ws ++ R)) → length ws ≡ length us → marksIn ws ≤ marksIn us → valuesIn ws ≤ valuesIn us
-    → length (q .marks) ≤ length (r .marks) + x → length (q .values) ≤ length (r .values) + y
-    → Does U c e 0 x y (A ++ q ∷ (ws ++ R))
-unfolding marksIn valuesIn
-block-does T U c e A R us ws r q x y H N l m v mq vq = record {
-  holds = N;
-  rows-more = omega (
-    arith,
-    H .rows-are,
-    N .rows-are,
-    length-append A (r ∷ (us ++ R)),
-    length-append A (q ∷ (ws ++ R)),
-    length-append us R,
-    length-append ws R,
-  );
-  marks-more = omega (
-    arith,
-    H .marks-are,
-    N .marks-are,
-    marks-append A (r ∷ (us ++ R)),
-    marks-append A (q ∷ (ws ++ R)),
-    marks-append us R,
-    marks-append ws R,
-  );
-  values-more = omega (
-    arith,
-    H .values-are,
-    N .values-are,
-    values-append A (r ∷ (us ++ R)),
-    values-append A (q ∷ (ws ++ R)),
-    values-append us R,
-    values-append ws R,
-  );
-}
-
--- of one row
-pub row-does : (T U : Tables) (c e : Counts) (A R : List Row) (r q : Row) (x y : ℕ) → Holds T c (A ++ r ∷ R) → Holds U e (A ++ q ∷ R)
-    → length (q .marks) ≤ length (r .marks) + x → length (q .values) ≤ length (r .values) + y → Does U c e 0 x y (A ++ q ∷ R)
-row-does T U c e A R r q x y H N = block-does T U c e A R [] [] r q x y H N refl (omega arith) (omega arith)
-
-pub marked-more : (i : ℕ) (r : Row) → length (markRow i r .marks) ≤ length (r .marks) + 1
-marked-more i r = omega (arith, put-length own i (r .marks))
-
 flag-enter : (b : Bool) (r : Row) → flagRow b r ≡ cond b (listRow r) (mapRow r)
 flag-enter true r = refl
 flag-enter false r = refl
-
-pub flag-marks : (b : Bool) (r : Row) → length (flagRow b r .marks) ≡ length (r .marks)
-flag-marks true r = refl
-flag-marks false r = refl
-
-pub flag-values : (b : Bool) (r : Row) → length (flagRow b r .values) ≡ length (r .values)
-flag-values true r = refl
-flag-values false r = refl
 
 module _ (o : Act) (list : Bool) (n : ℕ) (s : Position) (c : Counts) (p : ℕ) (h m : List ℕ) where
   -- a delete leaves no mark

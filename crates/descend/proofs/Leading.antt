@@ -22,24 +22,10 @@ use Rattle.tables.specs.declared.Counts.{Counts}
 use Rattle.tables.specs.declared.Position.{Position}
 use Rattle.tables.specs.declared.Search.{Search}
 use Rattle.steps.specs.Steps.{Opens}
+use Rattle.act.proofs.Counted.{opened-counts}
 use Rattle.descend.specs.Reach.{changing, reached-row, reached-new, reached-none}
 use Rattle.descend.specs.Doing.{Making, Arrives, Leads}
 use Rattle.descend.specs.declared.Child.{Child}
-
--- a new row is one more, with no mark and no value
-pub record Opened (c e : Counts) : Type 0 where
-  pub rows : e .rows ≡ c .rows + 1
-  pub marks : e .marks ≡ c .marks
-  pub values : e .values ≡ c .values
-
-pub opened-counts : (T U : Tables) (c e : Counts) (A R : List Row) (n : ℕ) (p : Spot) → Holds T c (A ++ R)
-    → Holds U e (A ++ newRow n p ∷ R) → Opened c e
-unfolding marksIn valuesIn
-opened-counts T U c e A R n p H N = record {
-  rows = omega (arith, N .rows-are, H .rows-are, length-append A R, length-append A (newRow n p ∷ R));
-  marks = omega (arith, N .marks-are, H .marks-are, marks-append A R, marks-append A (newRow n p ∷ R));
-  values = omega (arith, N .values-are, H .values-are, values-append A R, values-append A (newRow n p ∷ R));
-}
 
 module _ (h k : List ℕ) (c : Counts) (from t : Position) (w : Search) (F : FindsIn h k (c .rows) from w t) where
   module _ (m v : List ℕ) (A B : List Row) (pass : Spot → Bool) (H : Holds (four h k m v) c (A ++ B)) (b : from ≡ behind A)

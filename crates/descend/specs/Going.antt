@@ -19,8 +19,9 @@ use Rattle.message.specs.declared.Deed.{Deed}
 use Rattle.tables.specs.Finds.{Agrees, Tells}
 use Rattle.tables.specs.Wants.{searchOf, passOf, meantOf, want-key, spot-agrees, spot-tells}
 use Rattle.tables.specs.declared.Counts.{Counts}
+use Rattle.deeds.specs.Deeds.{isDelete, isInsert, mayMake, insertsHere}
 use Rattle.descend.specs.Reach.{changing}
-use Rattle.descend.specs.Doing.{isDelete, isInsert, mayMake, insertsHere, Making}
+use Rattle.descend.specs.Doing.{Making}
 
 -- A way's words: three for each key.
 

@@ -1,21 +1,13 @@
 // Document 01, "What an operation does": an operation carried out on the tables, in place. The way is followed from the root down; what its
 // end says is done first, and each place on the way is marked on the way back, so that no step moves what a later one looks for. At the end
 // of the way a gap of as many words as there are marks to put in stands in the marks; it travels to the front, and no mark is moved twice.
-mod kinds;
-mod seats;
-
-use kinds::branch_of;
-use kinds::given_in;
-use kinds::inserts_here;
-use kinds::is_delete;
-pub use kinds::is_insert;
-use kinds::kind_of;
-use kinds::may_make;
-use kinds::parts_of;
-use meaning::Counters;
+use act::Act;
+use act::finish;
+use act::put_element;
+use deeds::inserts_here;
+use deeds::is_delete;
+use deeds::may_make;
 use message::Deed;
-use readers::Given;
-use seats::put_element;
 use steps::WithGap;
 use tables::Counts;
 use tables::Position;
@@ -24,22 +16,8 @@ use tables::next_row;
 use tables::search_of;
 ghost use Rattle.tables.specs.Wants.{searchOf};
 ghost use Rattle.tables.specs.Holding.{four};
-ghost use Rattle.descend.specs.Doing.{mayMake};
-ghost use Rattle.descend.specs.Doing.{Leads, Gives, Finishes, Enters, Descends};
-
-// What is done, and by which operation.
-pub struct Act {
-    pub id: u64,
-    pub deps: Counters,
-    pub deed: Deed,
-    pub words: [u64; 4],
-}
-
-// Where a new element comes, if its predecessor is there.
-struct Seat {
-    there: bool,
-    at: Position,
-}
+ghost use Rattle.deeds.specs.Deeds.{mayMake};
+ghost use Rattle.descend.specs.Doing.{Leads, Enters, Descends};
 
 // The row that a key leads to, if there is one now.
 pub struct Child {
@@ -103,78 +81,6 @@ fn reach(
     let w = search_of(n, hi, lo, len);
     let make = may_make(len, left, deed);
     lead(heads, keys, c, from, w, make)
-}
-
-// Assigns at a row: a plain value takes the place of those that deps cover; an empty map or list clears the place. The mark is the first of
-// n that are to be put in.
-fn give(
-    heads: &mut [u64],
-    marks: &mut [u64],
-    values: &mut [u64],
-    c: Counts,
-    s: Position,
-    id: u64,
-    deps: Counters,
-    g: Given,
-    words: [u64; 4],
-    n: usize,
-) -> WithGap
-    ensures { λ r. ⌜ Gives id (deps .at) g words n s c (now (heads .entry)) (now (marks .entry)) (now (values .entry)) (r .counts) (r .gap)
-        (now (heads .exit)) (now (marks .exit)) (now (values .exit)) ⌝ }
-{
-    let branch = branch_of(g);
-    if branch == 0 {
-        let a = steps::mark_row(heads, marks, c, s, id, c.marks, n);
-        let kind = kind_of(g);
-        let parts = parts_of(g, words);
-        let e = values::set_value(heads, values, a.counts, s, deps, id, kind, parts);
-        return WithGap {
-            counts: e,
-            gap: a.gap,
-        };
-    }
-    let row = s.row;
-    let a = clear::clear_block(heads, marks, values, c, s, deps);
-    let b = steps::mark_row(heads, marks, a, s, id, a.marks, n);
-    steps::flag_row(heads, row, branch == 2);
-    b
-}
-
-// What the way's end says: an assign or a delete, at a row of depth n.
-fn finish(
-    heads: &mut [u64],
-    marks: &mut [u64],
-    values: &mut [u64],
-    c: Counts,
-    s: Position,
-    o: Act,
-    n: usize,
-) -> WithGap
-    ensures { λ r. ⌜ Finishes o n s c (now (heads .entry)) (now (marks .entry)) (now (values .entry)) (r .counts) (r .gap)
-        (now (heads .exit)) (now (marks .exit)) (now (values .exit)) ⌝ }
-{
-    let deed = o.deed;
-    let deps = o.deps;
-    if is_delete(deed) {
-        let counts = clear::clear_block(heads, marks, values, c, s, deps);
-        return WithGap {
-            counts,
-            gap: counts.marks,
-        };
-    }
-    let words = o.words;
-    give(
-        heads,
-        marks,
-        values,
-        c,
-        s,
-        o.id,
-        deps,
-        given_in(deed),
-        words,
-        n,
-    )
 }
 
 // A place of depth n that the way goes on from: it is marked, unless the operation deletes, and its branch has its flag.

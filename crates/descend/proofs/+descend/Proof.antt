@@ -13,10 +13,10 @@ use Rattle.descend.proofs.descend.Reads as descend
 use Rattle.descend.proofs.descend.Kinds as descend-kinds
 use Rattle.descend.proofs.+descend.Lts-descend as descend-lts
 use Rattle.descend.proofs.enter.Reads as enter-reads
-use Rattle.descend.proofs.finish.Reads as finish-reads
-use Rattle.descend.proofs.kinds.inserts_here.Reads as inserts-here-reads
+use Rattle.act.proofs.finish.Reads as finish-reads
+use Rattle.deeds.proofs.inserts_here.Reads as inserts-here-reads
 use Rattle.tables.proofs.next_row.Reads as next-row-reads
-use Rattle.descend.proofs.seats.put_element.Reads as put-element-reads
+use Rattle.act.proofs.put_element.Reads as put-element-reads
 use Rattle.descend.proofs.reach.Reads as reach-reads
 use Rattle.descend.proofs.+descend.{statement}
 use Rattle.descend.proofs.+descend.Tie.{close}

@@ -1,0 +1,4 @@
+pub mod Gaps
+pub mod Counted
+pub mod Giving
+pub mod Inserting
