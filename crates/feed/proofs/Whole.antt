@@ -56,9 +56,9 @@ reads-pieces {b} {b′} {c} {c′} {chunk} h more =
     ap (λ p. pieces p (held b′ c′ ++ more)) (h .passing)
     ∙ ap (pieces (c .passing)) (ap (λ l. l ++ more) (h .bytes) ∙ append-assoc (held b c) chunk more)
 
--- A run takes the pieces of the stream.
+-- A run to the end takes the pieces of the stream.
 pub run-takes : {T U : Tables} {t t′ : List ℕ} {s s′ : State} {b : List ℕ} {c : Cut} {chunks : List (List ℕ)}
-    → FeedsAll T t s b c chunks U t′ s′ → (X : Terminal) → Keeps T t s X
+    → FeedsAll T t s b c chunks true U t′ s′ → (X : Terminal) → Keeps T t s X
     → Took X (pieces (c .passing) (held b c ++ joined chunks)) U t′ s′
 run-takes (onward {chunk = chunk} {chunks = chunks} r h f g) X K =
     let m = f .feeds .takes X K in
@@ -82,7 +82,7 @@ takes-receives (m ∷ ms) X Z h = go (ltb 463 (length m)) refl (λ Y r. takes-re
 
 -- From an empty buffer and memory that keeps a new terminal.
 pub run-merges : {T U : Tables} {t t′ : List ℕ} {s s′ : State} {b : List ℕ} {c : Cut} {chunks : List (List ℕ)}
-    → Unread c → Keeps T t s newTerminal → FeedsAll T t s b c chunks U t′ s′ → Merged (joined chunks) U t′ s′
+    → Unread c → Keeps T t s newTerminal → FeedsAll T t s b c chunks true U t′ s′ → Merged (joined chunks) U t′ s′
 unfolding pieces
 run-merges {b = b} {c = c} {chunks = chunks} u K r =
     let m = run-takes r newTerminal K in

@@ -4,7 +4,7 @@
 -- Assumes nothing: these are definitions.
 use Prim.Native.Nat.{ℕ}
 use mathlib.Core.Path.{_≡_}
-use mathlib.Core.Bool.{true, false}
+use mathlib.Core.Bool.{Bool, true, false}
 use mathlib.Core.List.{List, [], _∷_, _++_}
 use lib.ListN.{take}
 use Rattle.meaning.specs.Receive.{Terminal, newTerminal}
@@ -26,13 +26,15 @@ pub record ReadsOn (b : List ℕ) (c : Cut) (chunk : List ℕ) (b′ : List ℕ)
   pub passing : c′ .passing ≡ c .passing
 
 -- A run of a program: from memory, state, buffer and cut, over these chunks, to memory and state. Each chunk is read behind the bytes that
--- are held, and what is held is fed; the last chunk, which may have no bytes, is fed as the last.
-pub data FeedsAll : Tables → List ℕ → State → List ℕ → Cut → List (List ℕ) → Tables → List ℕ → State → Type 0 where
+-- are held, and what is held is fed. In a run to the end (`true`) the last chunk, which may have no bytes, is fed as the last; a run that
+-- stops before it (`false`) feeds each chunk as one that others may follow.
+pub data FeedsAll : Tables → List ℕ → State → List ℕ → Cut → List (List ℕ) → Bool → Tables → List ℕ → State → Type 0 where
   onward : {T U W : Tables} {t t′ t″ : List ℕ} {s s″ : State} {b b′ : List ℕ} {c c′ : Cut} {chunk : List ℕ} {chunks : List (List ℕ)}
-      (r : Fed) → ReadsOn b c chunk b′ c′ → AllFed T t s b′ c′ false r U t′ → FeedsAll U t′ (r .state) b′ (r .cut) chunks W t″ s″
-      → FeedsAll T t s b c (chunk ∷ chunks) W t″ s″
+      {whole : Bool} (r : Fed) → ReadsOn b c chunk b′ c′ → AllFed T t s b′ c′ false r U t′
+      → FeedsAll U t′ (r .state) b′ (r .cut) chunks whole W t″ s″ → FeedsAll T t s b c (chunk ∷ chunks) whole W t″ s″
   ends : {T U : Tables} {t t′ : List ℕ} {s : State} {b b′ : List ℕ} {c c′ : Cut} {chunk : List ℕ} (r : Fed)
-      → ReadsOn b c chunk b′ c′ → AllFed T t s b′ c′ true r U t′ → FeedsAll T t s b c (chunk ∷ []) U t′ (r .state)
+      → ReadsOn b c chunk b′ c′ → AllFed T t s b′ c′ true r U t′ → FeedsAll T t s b c (chunk ∷ []) true U t′ (r .state)
+  stops : {T : Tables} {t : List ℕ} {s : State} {b : List ℕ} {c : Cut} → FeedsAll T t s b c [] false T t s
 
 -- nothing is read yet
 pub record Unread (c : Cut) : Type 0 where

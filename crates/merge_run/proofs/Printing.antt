@@ -2,7 +2,8 @@
 -- Assumes nothing.
 use Prim.Native.Nat.{ℕ, _≤_}
 use native.Mathlib.Omega.{arith}
-use mathlib.Core.Path.{_≡_, subst}
+use mathlib.Core.Path.{_≡_, refl, sym, subst, _∙_}
+use mathlib.Core.Bool.{Bool, true, true≢false}
 use mathlib.Core.List.{List}
 use lib.ListN.{length, take}
 use borrow.Author.Tests.{le-ltb}
@@ -19,11 +20,31 @@ use Rattle.sheet.specs.Saving.{Saving}
 use Rattle.sheet.proofs.Saved.{sound-valid}
 use Rattle.feed.specs.Whole.{Merged, Prints}
 use Rattle.feed.proofs.Whole.{merged-prints}
+use Rattle.merge_run.specs.Run.{Read, input, Ending, ended, failed, wornOut, Ends, well, closed}
 use Rattle.merge_run.specs.Promises.{TookAll, KeepsMerged, SheetOf, Printable}
 
--- what is kept when all is taken can be printed
-pub took-keeps : {T U : Tables} {t t′ : List ℕ} {s s′ : State} {b : List ℕ} → TookAll T t s b U t′ s′ → KeepsMerged U s′
-took-keeps k = record { input = _; waiting = _; merged = k .merged }
+-- only a run to the input's end is told to be well
+ended-well : {reads : List Read} (ending : Ending) → Ends reads ending → true ≡ well ending → Ends reads ended
+ended-well ended h e = h
+ended-well failed h e = absurd (true≢false e)
+ended-well wornOut h e = absurd (true≢false e)
+
+closed-well : (ending : Ending) → true ≡ well ending → closed ending ≡ true
+closed-well ended e = refl
+closed-well failed e = absurd (true≢false e)
+closed-well wornOut e = absurd (true≢false e)
+
+-- What is kept when all went well can be printed.
+pub took-keeps : {T U : Tables} {t t′ : List ℕ} {s s′ : State} {b : List ℕ} {ok : Bool} → TookAll T t s b ok U t′ s′ → ok ≡ true
+    → KeepsMerged U s′
+took-keeps k o =
+    let e : true ≡ well (k .ending) = sym o ∙ k .told in
+    record {
+      reads = k .reads;
+      ends = ended-well (k .ending) (k .ends) e;
+      waiting = _;
+      merged = k .merged (closed-well (k .ending) e);
+    }
 
 -- A buffer of 65,536 bytes or more, into which the terminal's document was saved
 module _ {input waiting h k m v : List ℕ} {s : State} {before after : List ℕ} {answer : Saved} (p : Merged input (four h k m v) waiting s)
@@ -60,4 +81,4 @@ module _ {input waiting h k m v : List ℕ} {s : State} {before after : List ℕ
 
 -- the sheet of what is kept can be printed
 pub sheet-printable : {U : Tables} {s : State} {bytes : List ℕ} → KeepsMerged U s → SheetOf U s bytes → Printable bytes
-sheet-printable k f = record { input = k .input; merges = f (k .input) (k .waiting) (k .merged) }
+sheet-printable k f = record { reads = k .reads; ends = k .ends; merges = f (input (k .reads)) (k .waiting) (k .merged) }

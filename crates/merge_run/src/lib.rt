@@ -6,8 +6,6 @@ use libc::STDOUT_FILENO;
 use meaning::Saved;
 use stream::Cut;
 ghost use Prim.Native.Nat.{_-_, _≤_, _<_};
-ghost use mathlib.Core.Path.{_≡_};
-ghost use mathlib.Core.Bool.{true};
 ghost use lib.ListN.{length, take};
 ghost use Rattle.meaning.specs.Receive.{newTerminal};
 ghost use Rattle.tables.specs.Holding.{four};
@@ -15,31 +13,33 @@ ghost use Rattle.stream.specs.Pieces.{CutInside};
 ghost use Rattle.keeping.specs.Keeping.{Keeps};
 ghost use Rattle.merge_run.specs.Promises.{Came, ReadOn, TookAll, KeepsMerged, SheetOf, Printable};
 
-// The bytes that are read; whether no byte follows them; whether reading has failed.
+// The bytes that are read and not handed over; whether nothing more is read, since the input has ended or reading has failed; whether it
+// has failed.
 struct Input {
     cut: Cut,
     ended: bool,
     failed: bool,
 }
 
-// The terminal when all is received; not ok if reading has failed.
+// The terminal when all is received; ok exactly if the input has ended.
 struct Merged {
     state: State,
     ok: bool,
 }
 
-// What a read that has answered `got` comes to: so many bytes are held behind those that were held. If it is negative, reading has failed
-// or was interrupted.
-fn came(buf: &[u8], held: Cut, got: isize, interrupted: bool) -> Input
+// What a read that has answered `got` comes to: so many bytes are held behind those that were held. If it is negative, reading has failed,
+// unless the error number behind it tells that the read was interrupted.
+fn came(buf: &[u8], held: Cut, got: isize, errno: i32) -> Input
     requires { ⌜ CutInside (now buf) held ⌝ }
     requires { ⌜ held .to < length (now buf) ⌝ }
-    ensures { λ r. ⌜ Came (now (buf .entry)) held got interrupted r ⌝ }
+    ensures { λ r. ⌜ Came (now (buf .entry)) held got errno r ⌝ }
 {
     if got < 0 {
+        let failed = errno != libc::EINTR;
         return Input {
             cut: held,
-            ended: !interrupted,
-            failed: !interrupted,
+            ended: failed,
+            failed,
         };
     }
     let to = held.to;
@@ -57,7 +57,8 @@ fn came(buf: &[u8], held: Cut, got: isize, interrupted: bool) -> Input
 }
 
 // Reads on behind the bytes that are held. There is room, so a read of no bytes is the input's end. `errno` says something only if the
-// read has failed; `came` looks at it only then.
+// answer is negative; `came` looks at it only then. No contract ties what `came` is told to what was answered: the proof names it, and runs
+// show it (docs/DECISIONS.md, 59).
 fn read_on(buf: &mut [u8], c: Cut) -> Input
     requires { ⌜ CutInside (now buf) c ⌝ }
     requires { ⌜ c .to - c .from < length (now buf) ⌝ }
@@ -66,16 +67,16 @@ fn read_on(buf: &mut [u8], c: Cut) -> Input
     let held = stream::make_room(buf, c);
     let to = held.to;
     let got = libc::read(STDIN_FILENO, &mut buf[to..]);
-    let interrupted = os::errno() == libc::EINTR;
-    let r = came(buf, held, got, interrupted);
+    let errno = os::errno();
+    let r = came(buf, held, got, errno);
     if r.failed {
         os::fail(b"merge: standard input");
     }
     r
 }
 
-// Receives all messages of standard input into a new terminal. A proved loop has to end, and nothing says that the input does, so the
-// turns are counted down from a number that no run uses up.
+// Receives all messages of standard input into a new terminal: read by read, to the input's end, to a failure, or until 2^64 - 1 reads are
+// made. A proved loop has to end, and nothing says that the input does, so the turns are counted down from a number that no run uses up.
 fn receive_all(
     heads: &mut [u64],
     keys: &mut [u64],
@@ -87,9 +88,9 @@ fn receive_all(
 ) -> Merged
     requires { ⌜ Keeps (four (now heads) (now keys) (now marks) (now values)) (now waiting) s newTerminal ⌝ }
     requires { ⌜ 468 < length (now buf) ⌝ }
-    ensures { λ r. ⌜ (r .ok ≡ true → TookAll (four (now (heads .entry)) (now (keys .entry)) (now (marks .entry)) (now (values .entry)))
-        (now (waiting .entry)) s (now (buf .entry))
-        (four (now (heads .exit)) (now (keys .exit)) (now (marks .exit)) (now (values .exit))) (now (waiting .exit)) (r .state)) ⌝ }
+    ensures { λ r. ⌜ TookAll (four (now (heads .entry)) (now (keys .entry)) (now (marks .entry)) (now (values .entry)))
+        (now (waiting .entry)) s (now (buf .entry)) (r .ok)
+        (four (now (heads .exit)) (now (keys .exit)) (now (marks .exit)) (now (values .exit))) (now (waiting .exit)) (r .state) ⌝ }
 {
     let mut state = s;
     let mut cut = Cut {
@@ -142,7 +143,8 @@ fn whole_sheet(
     }
 }
 
-// Hands bytes to standard output, and only such as `merge` prints. No contract of `io::write_all` says what is written.
+// Hands bytes to standard output, and only such as `merge` prints of an input that was read to its end. No contract of `io::write_all` says
+// what is written.
 fn write_out(bytes: &[u8])
     requires { ⌜ Printable (now bytes) ⌝ }
 {
@@ -169,9 +171,10 @@ fn print(heads: &[u64], keys: &[u64], marks: &[u64], values: &[u64], s: State)
     write_first(buf, n);
 }
 
-// Reads standard input, and prints the sheet unless reading has failed. Proved: the bytes that are handed to `io::write_all` are the sheet
-// of the terminal that has received the messages of the bytes that came, one after another. That these are the bytes of standard input,
-// and that what is handed over is written, no contract of `libc` says.
+// Reads standard input to its end and prints the sheet. If reading fails, or 2^64 - 1 reads don't come to the end, nothing is handed to
+// standard output. Proved: the bytes that are handed to `io::write_all` are the sheet of the terminal that has received the messages of the
+// bytes that came, one after another. That these are the bytes of standard input, and that what is handed over is written, no contract of
+// `libc` says.
 pub fn merge() {
     let mut heads = [0u64; 264];
     let mut keys = [0u64; 792];

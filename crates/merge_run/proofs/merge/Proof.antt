@@ -9,7 +9,7 @@ print-requires : tie.Need-print-requires
 print-requires c κs =
     let at-if1 = c .before .before .before .before .before in
     let at-receive-all = at-if1 .before .before .before .before .before .before .before in
-    took-keeps (at-receive-all .receive-all .ensures (at-if1 .if1 .taken))
+    took-keeps (at-receive-all .receive-all .ensures) (at-if1 .if1 .taken)
 
 pub merge-spec : {M : Type 1} → statement M
 merge-spec =

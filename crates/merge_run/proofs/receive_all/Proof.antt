@@ -81,7 +81,7 @@ loop-again-2 c =
         at-read-on .read-on .kept .0 ∙ at-loop .loop .inv .0 .5,
       ),
       turning-on (at-loop .loop .inv .1) (omega (arith, at-loop-test .loop-test .taken)) (at-read-on .read-on .ensures)
-          (at-take-in .take-in .ensures) (c .if1 .left) _,
+          (at-take-in .take-in .ensures) (c .if1 .left),
     )
 
 pub receive-all-spec : {M : Type 1} → statement M
@@ -90,7 +90,7 @@ receive-all-spec =
     (tie.spec
     Inv-loop
     μ-loop
-    (λ c. ((refl, refl, refl, refl, refl, refl), turning-none _ _ _ _ _))
+    (λ c. ((refl, refl, refl, refl, refl, refl), turning-none _ _ _ _ _ refl))
     read-on-requires
     take-in-requires
     loop-less
@@ -104,4 +104,4 @@ receive-all-spec =
     (λ c. c .before .loop .inv .0 .3)
     (λ c. c .before .loop .inv .0 .4)
     (λ c. c .before .loop .inv .0 .5)
-    (λ c. c .before .loop .inv .1 .took))
+    (λ c. c .before .loop .inv .1 .took (omega (arith, c .loop-test .left))))
