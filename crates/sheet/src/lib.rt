@@ -13,6 +13,11 @@ use listed::rows_size;
 use meaning::Counters;
 use meaning::Saved;
 use tables::Counts;
+use tables::HEADS;
+use tables::KEYS;
+use tables::MARKS;
+use tables::VALUES;
+use tables::within;
 use writers::put_text;
 ghost use mathlib.Core.Path.{_≡_};
 ghost use Prim.Native.Nat.{_≤_};
@@ -66,23 +71,24 @@ fn put_sheet(
     c + put_end_line(&mut buf[c..], rows as u64, powers)
 }
 
-// Saves the tables' document: answers how many bytes were written, or, with the buffer as it was, how many are needed.
+// Saves the tables' document: answers how many bytes were written, or, with the buffer as it was, how many are needed. Of counts that have
+// no room in the tables no buffer is long enough.
 pub fn save(
-    heads: &[u64],
-    keys: &[u64],
-    marks: &[u64],
-    values: &[u64],
+    heads: &[u64; HEADS],
+    keys: &[u64; KEYS],
+    marks: &[u64; MARKS],
+    values: &[u64; VALUES],
     c: Counts,
     seen: Counters,
     buf: &mut [u8],
 ) -> Saved
-    ensures { λ r. ⌜ Saving (now (heads .entry)) (now (keys .entry)) (now (marks .entry)) (now (values .entry)) c seen
+    ensures { λ r. ⌜ Saving (four (now (heads .entry)) (now (keys .entry)) (now (marks .entry)) (now (values .entry))) c seen
         (now (buf .entry)) r (now (buf .exit)) ⌝ }
 {
-    let rows = c.rows;
-    if 264 < rows {
-        return Saved::Written { written: 0 };
+    if !within(c) {
+        return Saved::ShortBuffer { needed: usize::MAX };
     }
+    let rows = c.rows;
     let powers = decimal::powers();
     let needed = sheet_size(heads, keys, marks, values, rows, seen, &powers);
     if buf.len() < needed {

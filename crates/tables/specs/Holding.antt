@@ -3,10 +3,13 @@
 -- The contracts of the steps say: if the tables hold these rows, they hold those afterwards.
 -- Assumes nothing: these are definitions.
 use Prim.Native.Nat.{ℕ, _≤_}
-use mathlib.Core.Path.{_≡_}
-use mathlib.Core.Bool.{Bool, true, false}
+use mathlib.Core.Path.{_≡_, refl}
+use mathlib.Core.Bool.{Bool, true, false, _&&_}
 use mathlib.Core.List.{List, [], _∷_, _++_}
+use lib.Dec.{leb}
 use lib.ListN.{length}
+use borrow.Author.Tests.{le-leb, leb-true}
+use Rattle.theorems.specs.Decide.{and-left}
 use Rattle.meaning.specs.Members.{All, Ascending, own, idOfValue}
 use Rattle.meaning.specs.Load.{marksIn, valuesIn}
 use Rattle.meaning.specs.Sheet.{Row}
@@ -29,6 +32,10 @@ marksRoom = 1032
 abbrev pub valuesRoom : ℕ
 valuesRoom = 1542
 
+-- so many rows, marks and values have room in the tables
+unfoldable pub withinTables : Counts → Bool
+withinTables c = leb (c .rows) 264 && (leb (c .marks) 1032 && leb (c .values) 257)
+
 -- a row as every document has it
 pub record Good (r : Row) : Type 0 where
   pub spot : GoodSpot (r .spot)
@@ -49,6 +56,16 @@ pub record Holds (T : Tables) (c : Counts) (rs : List Row) : Type 0 where
   pub marks-fit : c .marks ≤ 1032
   pub values-fit : c .values ≤ 257
   pub good : All Good rs
+
+-- what the tables hold has room in them
+pub holds-within : {T : Tables} {c : Counts} {rs : List Row} → Holds T c rs → withinTables c ≡ true
+unfolding withinTables
+holds-within {c = c} h =
+    rw (le-leb (c .rows) 264 (h .rows-fit), le-leb (c .marks) 1032 (h .marks-fit), le-leb (c .values) 257 (h .values-fit)) refl
+
+pub within-rows : (c : Counts) → withinTables c ≡ true → c .rows ≤ 264
+unfolding withinTables
+within-rows c e = leb-true (c .rows) 264 (and-left (leb (c .rows) 264) _ e)
 
 -- four tables by their words
 abbrev pub four : List ℕ → List ℕ → List ℕ → List ℕ → Tables

@@ -5,8 +5,25 @@ ghost use mathlib.Core.Path.{_≡_};
 ghost use Prim.Native.Nat.{_+_, _*_, _-_, _≤_, _<_};
 ghost use lib.ListN.{length, getD};
 ghost use Rattle.tables.specs.Seek.{turn, turnNumber, passesOne, goesOver, isSought, Passes, Searches, holdsIf, sought};
+ghost use Rattle.tables.specs.Holding.{withinTables};
 ghost use Rattle.tables.specs.Wants.{searchOf};
 ghost use Rattle.tables.specs.Stands.{FindsIn, Knows};
+
+// How many words each table has, and how many rows, marks and values have room in them. Contracts don't see these numbers: those of the same
+// value stand in specs/Holding.
+pub const HEADS: usize = 264;
+
+pub const KEYS: usize = 792;
+
+pub const MARKS: usize = 1032;
+
+pub const VALUES: usize = 1542;
+
+pub const ROWS_ROOM: usize = 264;
+
+pub const MARKS_ROOM: usize = 1032;
+
+pub const VALUES_ROOM: usize = 257;
 
 // A place in the tables: a row, and how many marks and values the rows before it have.
 pub struct Position {
@@ -30,6 +47,19 @@ pub struct Search {
     pub hi: u64,
     pub lo: u64,
     pub len: u64,
+}
+
+// Whether so many rows, marks and values have room in the tables.
+pub fn within(c: Counts) -> bool
+    ensures { λ r. ⌜ r ≡ withinTables c ⌝ }
+{
+    if c.rows > ROWS_ROOM {
+        return false;
+    }
+    if c.marks > MARKS_ROOM {
+        return false;
+    }
+    c.values <= VALUES_ROOM
 }
 
 // What a table has at a place, and 0 behind its end.
