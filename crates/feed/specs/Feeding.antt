@@ -1,5 +1,6 @@
 -- What feeding promises: the pieces that are handed over are received one after another, and what is still held comes to the rest of the
--- stream, whatever bytes follow.
+-- stream, whatever bytes follow. Which pieces these are, and which bytes are still held, is settled by the bytes alone (`Cuts` of
+-- `stream`); so any two outcomes are equal (`take-in-once`, proofs/Once).
 -- Assumes nothing: these are definitions.
 use Prim.Native.Nat.{ℕ, _-_, _≤_, _<_}
 use mathlib.Core.Path.{_≡_}
@@ -10,6 +11,7 @@ use Rattle.meaning.specs.Promises.{Receives}
 use Rattle.meaning.specs.declared.Receipt.{Receipt}
 use Rattle.tables.specs.Words.{Tables}
 use Rattle.stream.specs.Pieces.{Piece, whole, tooLong, pieces, held, CutInside}
+use Rattle.stream.specs.Steps.{Cuts}
 use Rattle.stream.specs.declared.Cut.{Cut}
 use Rattle.keeping.specs.Keeping.{Keeps}
 use Rattle.keeping.specs.declared.State.{State}
@@ -49,8 +51,11 @@ pub record OneFed (T : Tables) (t : List ℕ) (s : State) (b : List ℕ) (c : Cu
   pub feeds : Feeds T t s b c last U t′ (r .state) (r .cut)
   pub onward : r .more ≡ false → c .from < r .cut .from
   pub rests : r .more ≡ true → Rests b last (r .cut)
+  pub goes : r .more ≡ false → (ps : List Piece) (end : Cut) → Cuts b last (r .cut) ps end → Cuts b last c (feeds .handed ++ ps) end
+  pub stops : r .more ≡ true → Cuts b last c (feeds .handed) (r .cut)
 
 pub record AllFed (T : Tables) (t : List ℕ) (s : State) (b : List ℕ) (c : Cut) (last : Bool) (r : Fed) (U : Tables) (t′ : List ℕ)
     : Type 0 where
   pub feeds : Feeds T t s b c last U t′ (r .state) (r .cut)
   pub rests : Rests b last (r .cut)
+  pub cuts : Cuts b last c (feeds .handed) (r .cut)

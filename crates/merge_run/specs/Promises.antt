@@ -1,6 +1,6 @@
 -- Document 01, "The saved sheet", last paragraph: what the functions of `merge` promise, from reading to the bytes that are written. No
--- contract of `libc::read` says which bytes come, so 'the bytes that were read' are those that stand in the buffer behind the ones that were
--- held, as many as the read answered (specs/Run).
+-- contract of `libc::read` says which bytes come, so 'the bytes that were read' are those that stand in the buffer behind the ones that
+-- were held, as many as the read answered (specs/Run).
 -- Assumes nothing: these are definitions.
 use Prim.Native.Nat.{ℕ, _-_}
 use mathlib.Core.Path.{_≡_}

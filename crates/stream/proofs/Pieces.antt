@@ -4,18 +4,18 @@ use Prim.Native.Nat.{ℕ, zero, suc, _+_, _-_, _≤_, _<_}
 use native.Mathlib.Nat.{sub-zero}
 use native.Mathlib.Omega.{arith}
 use mathlib.Core.Path.{_≡_, refl, sym, ap, _∙_, subst}
-use mathlib.Core.Bool.{Bool, true, false, cond}
+use mathlib.Core.Bool.{Bool, true, false, cond, _||_}
 use mathlib.Core.Logic.{_≢_}
 use mathlib.Core.List.{List, [], _∷_, _++_, map}
 use lib.Dec.{ltb}
 use lib.ListN.{length, take, drop, length-append, length-drop}
 use lib.Seq.{take-nil, take-take, take-append-le, drop-append-le, drop-drop, length-take-le}
-use borrow.Author.Tests.{lt-ltb, le-ltb, ltb-true, ltb-false}
+use borrow.Author.Tests.{lt-ltb, le-ltb, ltb-true, ltb-false, eq-eqb, ne-eqb}
 use Rattle.stream.specs.Ends.{first, Ends}
 use Rattle.stream.specs.Pieces.{Piece, whole, tooLong, judged, pieces, held, CutInside, Hands, Waits, Steps}
-use Rattle.stream.specs.Steps.{behind, handed, tail, waiting}
+use Rattle.stream.specs.Steps.{behind, handed, tail, waiting, endOf, step}
 use Rattle.stream.specs.declared.Cut.{Cut}
-use Rattle.stream.specs.declared.Step.the-variants.{Message, TooLong}
+use Rattle.stream.specs.declared.Step.the-variants.{Message, TooLong, More}
 use Rattle.stream.proofs.Messages.{messages-none, first-some, first-most, first-cuts}
 use Rattle.stream.proofs.Growing.{first-stays, first-goes-on}
 
@@ -214,3 +214,34 @@ module _ (s : List ℕ) (c : Cut) (h : CutInside s c) (e : ℕ) (found : Ends (t
   holds-back l n =
       let f : first (held s c) ≡ length (held s c) = omega (arith, held-long s c h, place, h .low, first-most (held s c)) in
       holds-on s c h f (omega (arith, h .low)) last n
+
+-- The code's answer is the step.
+
+or-true : (a b : Bool) → b ≡ true → (a || b) ≡ true
+or-true false b e = e
+or-true true b e = refl
+
+pub step-empty : (s : List ℕ) (c : Cut) (last : Bool) → c .from ≡ c .to → More c ≡ step s c last
+unfolding step
+step-empty s c last e = rw (eq-eqb (c .from) (c .to) e)
+
+module _ (s : List ℕ) (c : Cut) (h : CutInside s c) (e : ℕ) (found : Ends (take (c .to) s) (c .from) e) (some : c .from ≢ c .to)
+    (last : Bool) where
+  -- by the message's end, and whether that is known
+  known : (b : Bool) → (ltb e (c .to) || last) ≡ b → cond b (handed c e) (More (waiting c)) ≡ step s c last
+  unfolding step
+  known b k =
+      let p : e ≡ endOf s c = place s c h e found some last in
+      ap (λ b. cond b (handed c e) (More (waiting c))) (sym k)
+      ∙ (ap (λ e. cond (ltb e (c .to) || last) (handed c e) (More (waiting c))) p
+      ∙ sym (ap (λ b. cond b (More c) (cond (ltb (endOf s c) (c .to) || last) (handed c (endOf s c)) (More (waiting c))))
+      (ne-eqb (c .from) (c .to) some)))
+
+  pub step-inside : e < c .to → handed c e ≡ step s c last
+  step-inside l = known true (ap (λ b. b || last) (lt-ltb e (c .to) l))
+
+  pub step-last : last ≡ true → handed c e ≡ step s c last
+  step-last l = known true (or-true (ltb e (c .to)) last l)
+
+  pub step-back : c .to ≤ e → last ≡ false → More (waiting c) ≡ step s c last
+  step-back l n = known false (ap (λ b. b || last) (le-ltb e (c .to) l) ∙ n)

@@ -5,7 +5,7 @@ ghost use Prim.Native.Nat.{_≤_};
 ghost use lib.ListN.{length, drop};
 ghost use Rattle.stream.specs.Ends.{startsWith, opens, Ends};
 ghost use Rattle.stream.specs.Pieces.{CutInside, Steps, Moved};
-ghost use Rattle.stream.specs.Steps.{handed, waiting};
+ghost use Rattle.stream.specs.Steps.{handed, waiting, step};
 
 // Where a program stands that reads a stream into a buffer: the bytes from `from` to `to` are read and not handed over; if `passing`, they
 // go on with a message that is too long.
@@ -96,6 +96,7 @@ fn wait(c: Cut) -> Cut
 pub fn next_piece(buf: &[u8], c: Cut, last: bool) -> Step
     requires { ⌜ CutInside (now buf) c ⌝ }
     ensures { λ r. ⌜ Steps (now (buf .entry)) c last r ⌝ }
+    ensures { λ r. ⌜ r ≡ step (now (buf .entry)) c last ⌝ }
 {
     let from = c.from;
     let to = c.to;

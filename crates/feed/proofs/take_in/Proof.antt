@@ -4,8 +4,7 @@ use native.Mathlib.Omega.{arith}
 use mathlib.Core.Path.{_≡_, refl}
 use lib.ListN.{length}
 use Rattle.tables.specs.Holding.{four}
-use Rattle.feed.specs.Feeding.{Feeds}
-use Rattle.feed.proofs.Feeding.{feeds-none, feeds-on}
+use Rattle.feed.proofs.Feeding.{Going, going-none, going-on, going-ends}
 use Rattle.feed.proofs.take_in.Statement.{statement}
 use Rattle.feed.proofs.take_in.Tie as tie
 
@@ -13,7 +12,7 @@ abbrev Inv-loop : tie.InvT-loop
 Inv-loop heads₀ keys₀ marks₀ values₀ waiting₀ buf last state₀ cut₀ heads keys marks values waiting state cut =
     ((length heads ≡ length heads₀) × (length keys ≡ length keys₀) × (length marks ≡ length marks₀) × (length values ≡ length values₀)
     × (length waiting ≡ length waiting₀))
-    × Feeds (four heads₀ keys₀ marks₀ values₀) waiting₀ state₀ buf cut₀ last (four heads keys marks values) waiting state cut
+    × Going (four heads₀ keys₀ marks₀ values₀) waiting₀ state₀ buf cut₀ last (four heads keys marks values) waiting state cut
 
 abbrev μ-loop : tie.MeasureT-loop
 μ-loop heads₀ keys₀ marks₀ values₀ waiting₀ buf last state₀ cut₀ heads keys marks values waiting state cut =
@@ -22,12 +21,12 @@ abbrev μ-loop : tie.MeasureT-loop
 loop-holds : tie.Need-loop-holds Inv-loop μ-loop
 loop-holds c =
     let at-pre = c .before .before .before .before .before .before in
-    ((refl, refl, refl, refl, refl), feeds-none _ _ _ _ _ _ (at-pre .pre))
+    ((refl, refl, refl, refl, refl), going-none _ _ _ _ _ _ (at-pre .pre))
 
 take-one-requires : tie.Need-take-one-requires Inv-loop μ-loop
 take-one-requires c κs =
     let at-loop = c .before .before .before .before .before in
-    (at-loop .loop .inv) .1 .holds
+    (at-loop .loop .inv) .1 .feeds .holds
 
 same-length : tie.Need-same-length Inv-loop μ-loop
 same-length c =
@@ -63,11 +62,7 @@ returns : tie.Need-returns Inv-loop μ-loop
 returns c =
     let at-take-one = c .before .before .before .before .before .before .before .before .before .before .before .before .before in
     let at-loop = at-take-one .before .before .before .before .before .before in
-    record {
-      feeds = feeds-on ((at-loop .loop .inv) .1) ((at-take-one .take-one .ensures) .feeds);
-      rests
-          = (at-take-one .take-one .ensures) .rests (c .if1 .taken);
-    }
+    going-ends ((at-loop .loop .inv) .1) (at-take-one .take-one .ensures) (c .if1 .taken)
 
 loop-less : tie.Need-loop-less Inv-loop μ-loop
 loop-less c =
@@ -94,8 +89,7 @@ loop-again c =
         omega
             (arith, (at-loop .loop .inv) .0 .4, at-take-one .take-one .kept),
       ),
-      feeds-on ((at-loop .loop .inv) .1)
-          ((at-take-one .take-one .ensures) .feeds),
+      going-on ((at-loop .loop .inv) .1) (at-take-one .take-one .ensures) (c .if1 .left),
     )
 
 pub take-in-spec : {M : Type 1} → statement M
