@@ -12,7 +12,8 @@ use Rattle.tables.specs.Words.{Tables}
 use Rattle.tables.specs.Once.{held-once}
 use Rattle.tables.specs.declared.Counts.{Counts}
 use Rattle.keeping.specs.Storing.{Stores}
-use Rattle.apply.specs.Judging.{isTaken, Applies}
+use Rattle.judging.specs.Judging.{isTaken}
+use Rattle.apply.specs.Applying.{Applies}
 use Rattle.apply.specs.declared.Outcome.{Outcome}
 
 -- two outcomes

@@ -1,6 +1,2 @@
-pub mod Words
-pub mod Rooms
-pub mod Tops
-pub mod Verdicts
 pub mod Carrying
 pub mod Determined

@@ -4,7 +4,7 @@ use message::Operation;
 use tables::Counts;
 use tables::Position;
 ghost use Rattle.tables.specs.Holding.{four};
-ghost use Rattle.apply.specs.Judging.{CarriesWay, CarriesOut};
+ghost use Rattle.apply.specs.Applying.{CarriesWay, CarriesOut};
 
 // Carries out what o says; `words` are those of its way, of n keys.
 fn carry_way(

@@ -1,32 +1,18 @@
-// Document 01, "What is answered": an operation judged on the document as it stands, before anything is changed, and then carried out.
+// Document 01, "Applying an operation" and "What is answered": an operation judged on the document as it stands, before anything is
+// changed, and then carried out.
 mod carry;
-mod limits;
 
 use carry::carry_out;
-use limits::goes_down;
-use limits::has_room;
-use limits::is_small;
+use judging::Judgement;
+use judging::is_taken;
+use judging::judge_counters;
+use judging::judge_ready;
+use judging::top_of;
 use meaning::Counters;
-use message::Deed;
 use message::Operation;
 use tables::Counts;
-use tables::Position;
-ghost use mathlib.Core.Path.{_≡_};
 ghost use Rattle.tables.specs.Holding.{four};
-ghost use Rattle.apply.specs.Judging.{isTaken};
-ghost use Rattle.apply.specs.Judging.{TopsIn, JudgesCounters, JudgesWay, JudgesReady, Judges, TakesOn, Applies};
-
-// What an operation comes to: it is taken; it comes too early; or the refusals of document 01, by name.
-pub enum Judgement {
-    Taken,
-    Early,
-    Counter,
-    Repeat,
-    OwnDeps,
-    NoElement,
-    NotSmaller,
-    NoRoom,
-}
+ghost use Rattle.apply.specs.Applying.{TakesOn, Applies};
 
 pub struct Outcome {
     pub answer: Judgement,
@@ -38,163 +24,6 @@ pub struct Outcome {
 pub struct Later {
     pub counts: Counts,
     pub seen: Counters,
-}
-
-// 8, 9, 10, of an operation that is ready; `words` are those of its way, of n keys.
-fn judge_way(
-    heads: &[u64],
-    keys: &[u64],
-    marks: &[u64],
-    values: &[u64],
-    c: Counts,
-    top: Position,
-    id: u64,
-    deps: Counters,
-    deed: Deed,
-    words: &[u64],
-    n: usize,
-) -> Judgement
-    ensures { λ r. ⌜ JudgesWay (four (now (heads .entry)) (now (keys .entry)) (now (marks .entry)) (now (values .entry))) c top id
-        (deps .at) deed (now (words .entry)) n r ⌝ }
-{
-    if n > 8 {
-        return Judgement::NoElement;
-    }
-    if n == 0 {
-        return Judgement::NoElement;
-    }
-    let end = 3 * n;
-    if end > words.len() {
-        return Judgement::NoElement;
-    }
-    let w = forecast::weigh(
-        heads,
-        keys,
-        marks,
-        values,
-        c.rows,
-        top,
-        1,
-        true,
-        deps,
-        deed,
-        &words[..end],
-    );
-    if !w.found {
-        return Judgement::NoElement;
-    }
-    if goes_down(deed, id, words[end - 3], words[end - 1]) {
-        return Judgement::NotSmaller;
-    }
-    if !is_small(c, w) {
-        return Judgement::NoRoom;
-    }
-    if has_room(c, w) {
-        return Judgement::Taken;
-    }
-    Judgement::NoRoom
-}
-
-fn judge_ready(
-    heads: &[u64],
-    keys: &[u64],
-    marks: &[u64],
-    values: &[u64],
-    c: Counts,
-    top: Position,
-    op: Operation,
-) -> Judgement
-    ensures { λ r. ⌜ JudgesReady (four (now (heads .entry)) (now (keys .entry)) (now (marks .entry)) (now (values .entry))) c top op r ⌝ }
-{
-    let way = op.way;
-    let words = way.keys;
-    let deed = op.deed;
-    let deps = op.deps;
-    judge_way(
-        heads,
-        keys,
-        marks,
-        values,
-        c,
-        top,
-        op.id,
-        deps,
-        deed,
-        &words,
-        way.n,
-    )
-}
-
-// 2, 3, 4, and whether it comes too early.
-fn judge_counters(seen: Counters, op: Operation) -> Judgement
-    ensures { λ r. ⌜ JudgesCounters seen op r ⌝ }
-{
-    let id = op.id;
-    let deps = op.deps;
-    if counters::not_above(id, deps) {
-        return Judgement::Counter;
-    }
-    if counters::repeated(seen, id) {
-        return Judgement::Repeat;
-    }
-    if counters::own_deps_behind(seen, id, deps) {
-        return Judgement::OwnDeps;
-    }
-    if counters::ready(seen, id, deps) {
-        return Judgement::Taken;
-    }
-    Judgement::Early
-}
-
-// Where the search for the way's first key stops: it is the longest, and made once for judging and carrying out.
-fn top_of(heads: &[u64], keys: &[u64], rows: usize, op: Operation) -> Position
-    ensures { λ r. ⌜ TopsIn (now (heads .entry)) (now (keys .entry)) rows (op .way .keys) r ⌝ }
-{
-    let way = op.way;
-    let words = way.keys;
-    let first = Position {
-        row: 0,
-        mark: 0,
-        value: 0,
-    };
-    let w = tables::search_of(1, words[0], words[1], words[2]);
-    tables::find(heads, keys, rows, first, w)
-}
-
-// 2, 3, 4; then, if it is ready, 8, 9, 10.
-pub fn judge(
-    heads: &[u64],
-    keys: &[u64],
-    marks: &[u64],
-    values: &[u64],
-    c: Counts,
-    seen: Counters,
-    op: Operation,
-) -> Judgement
-    ensures { λ r. ⌜ Judges (four (now (heads .entry)) (now (keys .entry)) (now (marks .entry)) (now (values .entry))) c seen op r ⌝ }
-{
-    let early = judge_counters(seen, op);
-    if is_taken(early) {
-        let top = top_of(heads, keys, c.rows, op);
-        return judge_ready(heads, keys, marks, values, c, top, op);
-    }
-    early
-}
-
-// Whether an operation is taken.
-pub fn is_taken(answer: Judgement) -> bool
-    ensures { λ r. ⌜ r ≡ isTaken answer ⌝ }
-{
-    match answer {
-        Judgement::Taken => true,
-        Judgement::Early => false,
-        Judgement::Counter => false,
-        Judgement::Repeat => false,
-        Judgement::OwnDeps => false,
-        Judgement::NoElement => false,
-        Judgement::NotSmaller => false,
-        Judgement::NoRoom => false,
-    }
 }
 
 // Takes an operation that was judged so: carries it out, and raises seen.

@@ -16,9 +16,9 @@ use Rattle.theorems.specs.Decide.{and-left, and-right}
 use Rattle.theorems.specs.Invariant.{Sent}
 use Rattle.tables.specs.Words.{Tables}
 use Rattle.message.specs.declared.Operation as M
-use Rattle.apply.specs.Judging.{Judges}
-use Rattle.apply.specs.declared.Judgement.{Judgement}
-use Rattle.apply.specs.declared.Judgement.the-variants as J
+use Rattle.judging.specs.Judging.{Judges}
+use Rattle.judging.specs.declared.Judgement.{Judgement}
+use Rattle.judging.specs.declared.Judgement.the-variants as J
 use Rattle.waiting.specs.Waits.{TellsEarly, Tells}
 use Rattle.waiting.proofs.Holds.{all-at}
 use Rattle.keeping.specs.declared.State.{State}

@@ -17,7 +17,8 @@ use Rattle.theorems.specs.Settling.{left, rid, next, next-all}
 use Rattle.tables.specs.Words.{Tables}
 use Rattle.message.specs.declared.Operation as M
 use Rattle.keeping.specs.Storing.{Stores}
-use Rattle.apply.specs.Judging.{isTaken, verdict, TakesOn}
+use Rattle.judging.specs.Judging.{isTaken, verdict}
+use Rattle.apply.specs.Applying.{TakesOn}
 use Rattle.apply.specs.declared.Later.{Later}
 use Rattle.waiting.specs.Waits.{Waits, Gone, Tells, TakesOut}
 use Rattle.waiting.proofs.Holds.{all-at}

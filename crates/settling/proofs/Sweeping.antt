@@ -13,8 +13,8 @@ use Rattle.meaning.specs.Receive.{Terminal, dead, able}
 use Rattle.theorems.specs.Invariant.{Sent}
 use Rattle.theorems.specs.Keep.{keep-nil, keep-yes, keep-no, keep-append}
 use Rattle.tables.specs.Words.{Tables}
-use Rattle.apply.specs.Judging.{isTaken, verdict}
-use Rattle.apply.specs.declared.Judgement.{Judgement}
+use Rattle.judging.specs.Judging.{isTaken, verdict}
+use Rattle.judging.specs.declared.Judgement.{Judgement}
 use Rattle.waiting.specs.Waits.{Waits, Gone, TakesOut}
 use Rattle.waiting.proofs.Holds.{all-at, all-but}
 use Rattle.keeping.specs.declared.State.{State}

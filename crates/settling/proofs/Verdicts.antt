@@ -8,9 +8,9 @@ use Rattle.meaning.specs.Apply.{apply}
 use Rattle.meaning.specs.Limits.{fits}
 use Rattle.meaning.specs.Judge.{notAbove, repeated, ownDepsBehind, astray, downward}
 use Rattle.meaning.specs.Receive.{readyIn, dead, able}
-use Rattle.apply.specs.Judging.{isTaken, readyVerdict, verdict}
-use Rattle.apply.specs.declared.Judgement.{Judgement}
-use Rattle.apply.specs.declared.Judgement.the-variants as J
+use Rattle.judging.specs.Judging.{isTaken, readyVerdict, verdict}
+use Rattle.judging.specs.declared.Judgement.{Judgement}
+use Rattle.judging.specs.declared.Judgement.the-variants as J
 use Rattle.settling.specs.Verdicts.{deadly}
 
 -- the verdict by the tests 3, 4, ready, 8, 9, 10

@@ -11,8 +11,8 @@ use Rattle.meaning.specs.Members.{All}
 use Rattle.meaning.specs.Receive.{Terminal, able, nobody, picked, first, settle}
 use Rattle.theorems.specs.Settling.{left, rid, next}
 use Rattle.tables.specs.Words.{Tables}
-use Rattle.apply.specs.Judging.{verdict}
-use Rattle.apply.specs.declared.Judgement.{Judgement}
+use Rattle.judging.specs.Judging.{verdict}
+use Rattle.judging.specs.declared.Judgement.{Judgement}
 use Rattle.keeping.specs.Keeping.{Keeps}
 use Rattle.keeping.specs.declared.State.{State}
 use Rattle.settling.specs.declared.Swept.{Swept}

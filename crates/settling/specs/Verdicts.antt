@@ -1,8 +1,8 @@
 -- Verdicts that drop a waiting operation.
 -- Assumes nothing: these are definitions.
 use mathlib.Core.Bool.{Bool, true, false}
-use Rattle.apply.specs.declared.Judgement.{Judgement}
-use Rattle.apply.specs.declared.Judgement.the-variants as J
+use Rattle.judging.specs.declared.Judgement.{Judgement}
+use Rattle.judging.specs.declared.Judgement.the-variants as J
 
 -- 3, 4, 8, 9
 abbrev pub deadly : Judgement → Bool

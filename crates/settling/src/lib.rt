@@ -1,7 +1,7 @@
 // Document 01, "What is answered", last paragraph: the waiting messages of a terminal in lent memory are settled, in rounds. Each function
 // is safe on any memory.
-use apply::Judgement;
-use apply::is_taken;
+use judging::Judgement;
+use judging::is_taken;
 use keeping::State;
 ghost use mathlib.Core.Path.{_≡_};
 ghost use Rattle.tables.specs.Holding.{four};
@@ -62,7 +62,7 @@ fn look(
     let seen = s.seen;
     let counts = s.counts;
     let op = waiting::op_at(waiting, n, i);
-    apply::judge(heads, keys, marks, values, counts, seen, op)
+    judging::judge(heads, keys, marks, values, counts, seen, op)
 }
 
 // Drops the dead, and finds the first that can be applied. Of a message that comes too early no more is read than tells it.

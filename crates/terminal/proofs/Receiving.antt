@@ -27,9 +27,10 @@ use Rattle.message.specs.Means.{Means}
 use Rattle.message.specs.Promises.{noMessage, Answers, ReadsMessage}
 use Rattle.message.specs.declared.Operation as M
 use Rattle.message.specs.declared.MessageRead.{MessageRead}
-use Rattle.apply.specs.Judging.{isTaken, readyVerdict, verdict, Applies}
-use Rattle.apply.specs.declared.Judgement.{Judgement}
-use Rattle.apply.specs.declared.Judgement.the-variants as J
+use Rattle.judging.specs.Judging.{isTaken, readyVerdict, verdict}
+use Rattle.apply.specs.Applying.{Applies}
+use Rattle.judging.specs.declared.Judgement.{Judgement}
+use Rattle.judging.specs.declared.Judgement.the-variants as J
 use Rattle.apply.specs.declared.Outcome.{Outcome}
 use Rattle.waiting.specs.Waits.{idOf, TellsWaits, Puts}
 use Rattle.keeping.specs.declared.State.{State}

@@ -3,8 +3,8 @@
 use mathlib.Core.Bool.{Bool, true, false}
 use Rattle.meaning.specs.declared.Receipt.{Receipt}
 use Rattle.meaning.specs.declared.Receipt.the-variants as R
-use Rattle.apply.specs.declared.Judgement.{Judgement}
-use Rattle.apply.specs.declared.Judgement.the-variants as J
+use Rattle.judging.specs.declared.Judgement.{Judgement}
+use Rattle.judging.specs.declared.Judgement.the-variants as J
 
 abbrev pub isEarly : Judgement → Bool
 isEarly J.Taken = false

@@ -2,7 +2,7 @@
 // one that is applied the waiting ones are settled. Each function is safe on any memory.
 mod sorts;
 
-use apply::is_taken;
+use judging::is_taken;
 use keeping::State;
 use meaning::Counters;
 use meaning::Receipt;

@@ -1,5 +1,5 @@
 // Verdicts sorted: which let a message wait, and what a refusal answers.
-use apply::Judgement;
+use judging::Judgement;
 use meaning::Receipt;
 ghost use mathlib.Core.Path.{_≡_};
 ghost use Rattle.terminal.specs.Verdicts.{isEarly, refusalOf};

@@ -1,7 +1,8 @@
 -- An operation is judged, and taken if it may be.
 use mathlib.Core.Path.{refl, sym, _∙_}
 use borrow.Author.Tests.{not-true, not-false}
-use Rattle.apply.proofs.Carrying.{judges-stopped, judges-ready, takes-on, applies-refused, applies-taken}
+use Rattle.judging.proofs.Judged.{judges-stopped, judges-ready}
+use Rattle.apply.proofs.Carrying.{takes-on, applies-refused, applies-taken}
 use borrow.Author.Needs.{needs}
 use Rattle.apply.proofs.apply.Statement.{statement}
 use Rattle.apply.proofs.apply.Tie as tie

@@ -4,11 +4,11 @@ use mathlib.Core.Path.{refl, sym, _∙_}
 use lib.Seq.{length-take-le}
 use borrow.Author.Tests.{not-true, not-false}
 use Rattle.readers.specs.Reads.{yes, no}
-use Rattle.apply.specs.Judging.{Small}
-use Rattle.apply.proofs.Verdicts.{judge-long, judge-none, judge-cut, judge-eight, judge-nine, judge-large, judge-ten, judge-taken}
+use Rattle.judging.specs.Judging.{Small}
+use Rattle.judging.proofs.Verdicts.{judge-long, judge-none, judge-cut, judge-eight, judge-nine, judge-large, judge-ten, judge-taken}
 use borrow.Author.Needs.{needs}
-use Rattle.apply.proofs.judge_way.Statement.{statement}
-use Rattle.apply.proofs.judge_way.Tie as tie
+use Rattle.judging.proofs.judge_way.Statement.{statement}
+use Rattle.judging.proofs.judge_way.Tie as tie
 
 returns-4 : tie.Need-returns-4
 returns-4 c =

@@ -30,12 +30,12 @@ use Rattle.tables.specs.declared.Position.{Position}
 use Rattle.forecast.specs.Weighs.{Weighs, Weighed}
 use Rattle.forecast.specs.declared.Weight.{Weight}
 use Rattle.keeping.specs.Storing.{Stores}
-use Rattle.apply.specs.Judging.{Small, hasRoom, goesDown, readyVerdict, topPosition, Newer, Parts, JudgesWay, JudgesReady}
-use Rattle.apply.specs.declared.Judgement.{Judgement}
-use Rattle.apply.specs.declared.Judgement.the-variants as J
-use Rattle.apply.proofs.Words.{take-pad, words-count, down-pad}
-use Rattle.apply.proofs.Rooms.{weight-small, room-is}
-use Rattle.apply.proofs.Tops.{found-top, change-top}
+use Rattle.judging.specs.Judging.{Small, hasRoom, goesDown, readyVerdict, topPosition, Newer, Parts, JudgesWay, JudgesReady}
+use Rattle.judging.specs.declared.Judgement.{Judgement}
+use Rattle.judging.specs.declared.Judgement.the-variants as J
+use Rattle.judging.proofs.Words.{take-pad, words-count, down-pad}
+use Rattle.judging.proofs.Rooms.{weight-small, room-is}
+use Rattle.judging.proofs.Tops.{found-top, change-top}
 
 -- the whole way, from the root
 abbrev pub whole : M.Operation → M.Way

@@ -17,7 +17,7 @@ use Rattle.readers.specs.Words.{keyWords}
 use Rattle.message.specs.Means.{prevWords, wayWords, deedOf, pad}
 use Rattle.message.specs.declared.Deed.{Deed}
 use Rattle.deeds.specs.Deeds.{isInsert}
-use Rattle.apply.specs.Judging.{goesDown}
+use Rattle.judging.specs.Judging.{goesDown}
 
 pub take-pad : (n : ℕ) (w : List ℕ) → length w ≤ n → take (length w) (pad n w) ≡ w
 unfolding pad

@@ -18,7 +18,7 @@ use Rattle.tables.specs.Stands.{FindsIn}
 use Rattle.tables.specs.Standing.{first, behind}
 use Rattle.tables.specs.declared.Position.{Position}
 use Rattle.tables.specs.declared.Search.{Search}
-use Rattle.apply.specs.Judging.{TopsIn}
+use Rattle.judging.specs.Judging.{TopsIn}
 
 pub first-behind : first ≡ behind []
 unfolding after

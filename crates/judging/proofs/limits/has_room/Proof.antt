@@ -1,8 +1,8 @@
 -- Whether what comes has room.
 use native.Mathlib.Omega.{arith}
-use Rattle.apply.proofs.Rooms.{no-places, no-marks, the-values}
-use Rattle.apply.proofs.limits.has_room.Statement.{statement}
-use Rattle.apply.proofs.limits.has_room.Tie as tie
+use Rattle.judging.proofs.Rooms.{no-places, no-marks, the-values}
+use Rattle.judging.proofs.limits.has_room.Statement.{statement}
+use Rattle.judging.proofs.limits.has_room.Tie as tie
 
 add-if2 : tie.Need-add-if2
 add-if2 c =

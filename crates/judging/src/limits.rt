@@ -4,7 +4,7 @@ use message::Deed;
 use tables::Counts;
 ghost use mathlib.Core.Path.{_≡_};
 ghost use Rattle.tables.specs.Seek.{holdsIf};
-ghost use Rattle.apply.specs.Judging.{Small, hasRoom, goesDown};
+ghost use Rattle.judging.specs.Judging.{Small, hasRoom, goesDown};
 
 // Whether the numbers are such as memory that holds a document comes to.
 pub fn is_small(c: Counts, w: Weight) -> bool

@@ -1,9 +1,9 @@
 -- The verdict on an operation.
 use mathlib.Core.Path.{refl, sym, _∙_}
-use Rattle.apply.proofs.Carrying.{judges-stopped, judges-ready}
+use Rattle.judging.proofs.Judged.{judges-stopped, judges-ready}
 use borrow.Author.Needs.{needs}
-use Rattle.apply.proofs.judge.Statement.{statement}
-use Rattle.apply.proofs.judge.Tie as tie
+use Rattle.judging.proofs.judge.Statement.{statement}
+use Rattle.judging.proofs.judge.Tie as tie
 
 returns : tie.Need-returns
 returns c =

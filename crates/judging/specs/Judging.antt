@@ -1,5 +1,5 @@
--- What judging and applying promise of memory that holds a document. An operation is judged on the document as it stands: 2, 3, 4; if it
--- isn't ready it comes too early; else 8, 9, 10; else it is taken. On a refusal not one word has changed.
+-- What judging promises of memory that holds a document. An operation is judged on the document as it stands: 2, 3, 4; if it isn't ready it
+-- comes too early; else 8, 9, 10; else it is taken.
 -- Assumes nothing: these are definitions.
 use Prim.Native.Nat.{ℕ, suc, _+_, _≤_, _<_}
 use mathlib.Core.Path.{_≡_}
@@ -19,22 +19,19 @@ use Rattle.meaning.specs.Sheet.{rowsOf}
 use Rattle.meaning.specs.declared.Counters.{Counters}
 use Rattle.rows.specs.Blocks.{passed, keyBelow, over}
 use Rattle.readers.specs.Words.{keyWords}
-use Rattle.message.specs.Means.{wayWords, deedOf, deedWords, pad, Means}
+use Rattle.message.specs.Means.{wayWords, deedOf, pad, Means}
 use Rattle.message.specs.declared.Deed.{Deed}
 use Rattle.message.specs.declared.Operation.{Operation}
 use Rattle.tables.specs.Words.{Tables}
-use Rattle.tables.specs.Holding.{Holds, four}
+use Rattle.tables.specs.Holding.{four}
 use Rattle.tables.specs.Standing.{behind}
 use Rattle.tables.specs.declared.Counts.{Counts}
 use Rattle.tables.specs.declared.Position.{Position}
 use Rattle.keeping.specs.Storing.{Stores}
 use Rattle.forecast.specs.declared.Weight.{Weight}
 use Rattle.deeds.specs.Deeds.{isInsert}
-use Rattle.act.specs.declared.Act.{Act}
-use Rattle.apply.specs.declared.Judgement.{Judgement}
-use Rattle.apply.specs.declared.Judgement.the-variants as J
-use Rattle.apply.specs.declared.Outcome.{Outcome}
-use Rattle.apply.specs.declared.Later.{Later}
+use Rattle.judging.specs.declared.Judgement.{Judgement}
+use Rattle.judging.specs.declared.Judgement.the-variants as J
 
 -- the numbers of memory that holds a document, and of an operation on it
 pub record Small (c : Counts) (w : Weight) : Type 0 where
@@ -126,29 +123,6 @@ JudgesReady T c s op r =
     (D : Document) (o : M.Operation) → Stores T c (D .seen) D → Means op o → ValidOperation o → Newer D o → s ≡ topPosition o D
     → r ≡ readyVerdict o D
 
-abbrev pub CarriesWay : Tables → Counts → Position → Act → List ℕ → ℕ → Counts → Tables → Type 0
-CarriesWay T c s a ks n e U =
-    (D : Document) (o : M.Operation) → Stores T c (D .seen) D → Parts (a .id) (a .deps .at) (a .deed) ks n o
-    → a .words ≡ deedWords (o .way) → ValidOperation o → Newer D o → s ≡ topPosition o D → Holds U e (rowsOf (apply o D))
-
-abbrev pub CarriesOut : Tables → Counts → Position → Operation → Counts → Tables → Type 0
-CarriesOut T c s op e U =
-    (D : Document) (o : M.Operation) → Stores T c (D .seen) D → Means op o → ValidOperation o → Newer D o → s ≡ topPosition o D
-    → Holds U e (rowsOf (apply o D))
-
 -- the whole judgement
 abbrev pub Judges : Tables → Counts → Counters → Operation → Judgement → Type 0
 Judges T c seen op r = (D : Document) (o : M.Operation) → Stores T c (seen .at) D → Means op o → ValidOperation o → r ≡ verdict o D
-
--- an operation that may be taken leaves the document that it makes
-abbrev pub TakesOn : Tables → Counts → Counters → Operation → Later → Tables → Type 0
-TakesOn T c seen op r U =
-    (D : Document) (o : M.Operation) → Stores T c (seen .at) D → Means op o → ValidOperation o → isTaken (verdict o D) ≡ true
-    → Stores U (r .counts) (r .seen .at) (apply o D)
-
--- answer, document and every word; for any memory a refusal changes nothing
-pub record Applies (T : Tables) (c : Counts) (seen : Counters) (op : Operation) (r : Outcome) (U : Tables) : Type 0 where
-  pub answers : (D : Document) (o : M.Operation) → Stores T c (seen .at) D → Means op o → ValidOperation o → r .answer ≡ verdict o D
-  pub takes : (D : Document) (o : M.Operation) → Stores T c (seen .at) D → Means op o → ValidOperation o → isTaken (r .answer) ≡ true
-      → Stores U (r .counts) (r .seen .at) (apply o D)
-  pub refuses : isTaken (r .answer) ≡ false → (U ≡ T) × (r .counts ≡ c) × (r .seen ≡ seen)

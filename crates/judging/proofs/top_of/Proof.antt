@@ -1,8 +1,8 @@
 -- The stop of the top place.
-use Rattle.apply.proofs.Tops.{tops}
+use Rattle.judging.proofs.Tops.{tops}
 use borrow.Author.Needs.{needs}
-use Rattle.apply.proofs.top_of.Statement.{statement}
-use Rattle.apply.proofs.top_of.Tie as tie
+use Rattle.judging.proofs.top_of.Statement.{statement}
+use Rattle.judging.proofs.top_of.Tie as tie
 
 pub top-of-spec : {M : Type 1} → statement M
 top-of-spec =

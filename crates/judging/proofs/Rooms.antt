@@ -30,7 +30,7 @@ use Rattle.tables.specs.declared.Counts.{Counts}
 use Rattle.forecast.specs.Weighs.{Weighs}
 use Rattle.forecast.specs.declared.Weight.{Weight}
 use Rattle.keeping.specs.Storing.{Stores}
-use Rattle.apply.specs.Judging.{Small, hasRoom, Newer}
+use Rattle.judging.specs.Judging.{Small, hasRoom, Newer}
 
 -- no place goes, and at most one value comes
 record Slight (c : Change) : Type 0 where

@@ -1,10 +1,10 @@
 -- Whether a new element comes after one whose id isn't smaller.
 use native.Mathlib.Omega.{arith}
 use mathlib.Core.Path.{_∙_}
-use Rattle.apply.proofs.Words.{down-other, down-smaller, down-insert}
+use Rattle.judging.proofs.Words.{down-other, down-smaller, down-insert}
 use borrow.Author.Needs.{needs}
-use Rattle.apply.proofs.limits.goes_down.Statement.{statement}
-use Rattle.apply.proofs.limits.goes_down.Tie as tie
+use Rattle.judging.proofs.limits.goes_down.Statement.{statement}
+use Rattle.judging.proofs.limits.goes_down.Tie as tie
 
 pub goes-down-spec : {M : Type 1} → statement M
 goes-down-spec =

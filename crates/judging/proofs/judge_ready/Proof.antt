@@ -1,8 +1,8 @@
 -- 8, 9 and 10, of an operation that is ready.
-use Rattle.apply.proofs.Verdicts.{judge-parts}
+use Rattle.judging.proofs.Verdicts.{judge-parts}
 use borrow.Author.Needs.{needs}
-use Rattle.apply.proofs.judge_ready.Statement.{statement}
-use Rattle.apply.proofs.judge_ready.Tie as tie
+use Rattle.judging.proofs.judge_ready.Statement.{statement}
+use Rattle.judging.proofs.judge_ready.Tie as tie
 
 returns : tie.Need-returns
 returns c =

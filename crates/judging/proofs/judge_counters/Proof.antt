@@ -1,8 +1,8 @@
 -- 2, 3, 4 and whether it is ready.
 use borrow.Author.Needs.{needs}
-use Rattle.apply.proofs.Carrying.{forestalls-two, forestalls-three, forestalls-four, forestalls-none, forestalls-early}
-use Rattle.apply.proofs.judge_counters.Statement.{statement}
-use Rattle.apply.proofs.judge_counters.Tie as tie
+use Rattle.judging.proofs.Judged.{forestalls-two, forestalls-three, forestalls-four, forestalls-none, forestalls-early}
+use Rattle.judging.proofs.judge_counters.Statement.{statement}
+use Rattle.judging.proofs.judge_counters.Tie as tie
 
 returns : tie.Need-returns
 returns c =

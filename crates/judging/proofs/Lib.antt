@@ -1,0 +1,5 @@
+pub mod Words
+pub mod Rooms
+pub mod Tops
+pub mod Verdicts
+pub mod Judged
