@@ -3,7 +3,7 @@
 use Prim.Native.Nat.{ℕ, suc, _+_, _*_, _≤_, _<_}
 use native.Mathlib.Omega.{arith}
 use mathlib.Core.Path.{_≡_, refl, sym, ap, ap₂, _∙_, subst}
-use mathlib.Core.Bool.{Bool, true, false, cond, true≢false}
+use mathlib.Core.Bool.{Bool, true, false, cond, true≢false, false≢true}
 use mathlib.Core.List.{List, _++_}
 use lib.ListN.{length, take}
 use borrow.Author.Tests.{le-leb}
@@ -40,9 +40,12 @@ use Rattle.descend.specs.Doing.{Descends}
 use Rattle.act.proofs.Gaps.{marks-most}
 use Rattle.act.specs.declared.Act.{Act}
 use Rattle.keeping.specs.Storing.{Stores}
-use Rattle.judging.specs.Judging.{isTaken, readyVerdict, verdict, Parts, Tops, Judges}
+use Rattle.judging.specs.Judging.{isTaken, judgementOf, byCounters, readyVerdict, verdictBy, verdict, Parts, Tops, Judges}
+use Rattle.judging.specs.declared.Refusal.the-variants as F
+use Rattle.judging.specs.declared.Readiness.the-variants as B
+use Rattle.judging.specs.declared.ReadyJudgement.{ReadyJudgement}
+use Rattle.judging.specs.declared.ReadyJudgement.the-variants as Y
 use Rattle.judging.specs.declared.Judgement.{Judgement}
-use Rattle.judging.specs.declared.Judgement.the-variants as J
 use Rattle.judging.proofs.Tops.{rows-top}
 use Rattle.judging.proofs.Verdicts.{whole, steps-whole, deed-whole, way-part, cut-short, parts-of}
 use Rattle.judging.proofs.Judged.{newer, here-stores}
@@ -100,36 +103,33 @@ carry-out T U c e s op C D o S q val y t = C D o S (parts-of op o q) (q .edit .w
 
 -- An operation that is taken.
 
-taken-cond : (a : Bool) (x y : Judgement) → isTaken x ≡ false → isTaken (cond a x y) ≡ true → (a ≡ false) × (isTaken y ≡ true)
-taken-cond true x y f t = absurd (true≢false (sym t ∙ f))
-taken-cond false x y f t = (refl, t)
-
 record Taken (o : M.Operation) (D : Document) : Type 0 where
   new : repeated (D .seen) o ≡ false
   room : fits (apply o D) ≡ true
 
-ready-taken : (o : M.Operation) (D : Document) → isTaken (readyVerdict o D) ≡ true → fits (apply o D) ≡ true
-unfolding readyVerdict
-ready-taken o D t =
-    let a = taken-cond (astray D o) J.NoElement _ refl t in
-    let b = taken-cond (downward o) J.NotSmaller _ refl (a .1) in
-    go (fits (apply o D)) (b .1)
-  where
-    go : (y : Bool) → isTaken (cond y J.Taken J.NoRoom) ≡ true → y ≡ true
-    go true t = refl
-    go false t = absurd (true≢false (sym t))
+-- by the counters
+taken-ready : (a b c d : Bool) (y : ReadyJudgement)
+    → isTaken (verdictBy (cond a (B.Refused F.Counter) (cond b (B.Refused F.Repeat) (cond c (B.Refused F.OwnDeps) (cond d B.Ready B.Early)))) y)
+    ≡ true
+    → (b ≡ false) × (isTaken (judgementOf y) ≡ true)
+taken-ready true b c d y t = absurd (false≢true t)
+taken-ready false true c d y t = absurd (false≢true t)
+taken-ready false false true d y t = absurd (false≢true t)
+taken-ready false false false true y t = (refl, t)
+taken-ready false false false false y t = absurd (false≢true t)
+
+-- by the rest
+taken-fits : (a b c : Bool) → isTaken (judgementOf (cond a Y.NoElement (cond b Y.NotSmaller (cond c Y.Taken Y.NoRoom)))) ≡ true → c ≡ true
+taken-fits true b c t = absurd (false≢true t)
+taken-fits false true c t = absurd (false≢true t)
+taken-fits false false true t = refl
+taken-fits false false false t = t
 
 verdict-taken : (o : M.Operation) (D : Document) → isTaken (verdict o D) ≡ true → Taken o D
-unfolding verdict
+unfolding verdict byCounters readyVerdict
 verdict-taken o D t =
-    let a = taken-cond (notAbove o) J.Counter _ refl t in
-    let b = taken-cond (repeated (D .seen) o) J.Repeat _ refl (a .1) in
-    let c = taken-cond (ownDepsBehind (D .seen) o) J.OwnDeps _ refl (b .1) in
-    record { new = b .0; room = ready-taken o D (go (readyIn D o) (c .1)) }
-  where
-    go : (y : Bool) → isTaken (cond y (readyVerdict o D) J.Early) ≡ true → isTaken (readyVerdict o D) ≡ true
-    go true t = t
-    go false t = absurd (true≢false (sym t))
+    let a = taken-ready (notAbove o) (repeated (D .seen) o) (ownDepsBehind (D .seen) o) (readyIn D o) (readyVerdict o D) t in
+    record { new = a .0; room = taken-fits (astray D o) (downward o) (fits (apply o D)) (a .1) }
 
 raised-seen : (s : List ℕ) (o : M.Operation) → ValidOperation o → raised s (o .id) ≡ raise s (o .id)
 unfolding raised

@@ -4,9 +4,11 @@ mod carry;
 
 use carry::carry_out;
 use judging::Judgement;
+use judging::Readiness;
 use judging::is_taken;
 use judging::judge_counters;
 use judging::judge_ready;
+use judging::judgement_of;
 use judging::top_of;
 use meaning::Counters;
 use message::Operation;
@@ -61,28 +63,36 @@ pub fn apply(
     ensures { λ r. ⌜ Applies (four (now (heads .entry)) (now (keys .entry)) (now (marks .entry)) (now (values .entry))) c seen op r
         (four (now (heads .exit)) (now (keys .exit)) (now (marks .exit)) (now (values .exit))) ⌝ }
 {
-    let early = judge_counters(seen, op);
-    if !is_taken(early) {
-        return Outcome {
-            answer: early,
+    let readiness = judge_counters(seen, op);
+    match readiness {
+        Readiness::Ready => {
+            let top = top_of(heads, keys, c.rows, op);
+            let j = judge_ready(heads, keys, marks, values, c, top, op);
+            let answer = judgement_of(j);
+            if !is_taken(answer) {
+                return Outcome {
+                    answer,
+                    counts: c,
+                    seen,
+                };
+            }
+            let counts = carry_out(heads, keys, marks, values, c, top, op);
+            let raised = counters::raise(seen, op.id);
+            Outcome {
+                answer,
+                counts,
+                seen: raised,
+            }
+        }
+        Readiness::Early => Outcome {
+            answer: Judgement::Early,
             counts: c,
             seen,
-        };
-    }
-    let top = top_of(heads, keys, c.rows, op);
-    let answer = judge_ready(heads, keys, marks, values, c, top, op);
-    if !is_taken(answer) {
-        return Outcome {
-            answer,
+        },
+        Readiness::Refused(r) => Outcome {
+            answer: Judgement::Refused(r),
             counts: c,
             seen,
-        };
-    }
-    let counts = carry_out(heads, keys, marks, values, c, top, op);
-    let raised = counters::raise(seen, op.id);
-    Outcome {
-        answer,
-        counts,
-        seen: raised,
+        },
     }
 }

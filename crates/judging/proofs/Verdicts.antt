@@ -31,8 +31,8 @@ use Rattle.forecast.specs.Weighs.{Weighs, Weighed}
 use Rattle.forecast.specs.declared.Weight.{Weight}
 use Rattle.keeping.specs.Storing.{Stores}
 use Rattle.judging.specs.Judging.{Small, hasRoom, goesDown, readyVerdict, topPosition, Newer, Parts, JudgesWay, JudgesReady}
-use Rattle.judging.specs.declared.Judgement.{Judgement}
-use Rattle.judging.specs.declared.Judgement.the-variants as J
+use Rattle.judging.specs.declared.ReadyJudgement.{ReadyJudgement}
+use Rattle.judging.specs.declared.ReadyJudgement.the-variants as Y
 use Rattle.judging.proofs.Words.{take-pad, words-count, down-pad}
 use Rattle.judging.proofs.Rooms.{weight-small, room-is}
 use Rattle.judging.proofs.Tops.{found-top, change-top}
@@ -118,11 +118,11 @@ module _ (h k m v : List ℕ) (c : Counts) (i : ℕ) (d : List ℕ) (deed : Deed
         back true b e = ap not e
         back false b e = ap not e
 
-  pub judge-eight : x .found ≡ false → JudgesWay (four h k m v) c from i d deed ks n J.NoElement
+  pub judge-eight : x .found ≡ false → JudgesWay (four h k m v) c from i d deed ks n Y.NoElement
   unfolding readyVerdict
   judge-eight t D o S e val y f = rw (stray D o S e val f false t)
 
-  pub judge-large : (Small c x → ⊥) → (r : Judgement) → JudgesWay (four h k m v) c from i d deed ks n r
+  pub judge-large : (Small c x → ⊥) → (r : ReadyJudgement) → JudgesWay (four h k m v) c from i d deed ks n r
   judge-large t r D o S e val y f = absurd (t (small D o S e val f y))
 
   module _ (hi len : ℕ) (a : hi ≡ getD ks (3 * n - 3) 0) (b : len ≡ getD ks (3 * n - 1) 0)
@@ -132,22 +132,22 @@ module _ (h k m v : List ℕ) (c : Counts) (i : ℕ) (d : List ℕ) (deed : Deed
         → downward o ≡ y
     down D o e val y g = sym (down-is i d deed ks n o e val) ∙ (rw (← a, ← b) g)
 
-    pub judge-nine : goesDown deed i hi len ≡ true → JudgesWay (four h k m v) c from i d deed ks n J.NotSmaller
+    pub judge-nine : goesDown deed i hi len ≡ true → JudgesWay (four h k m v) c from i d deed ks n Y.NotSmaller
     unfolding readyVerdict
     judge-nine g D o S e val y f = rw (stray D o S e val f true t, down D o e val true g)
 
-    pub judge-ten : goesDown deed i hi len ≡ false → hasRoom c x ≡ false → JudgesWay (four h k m v) c from i d deed ks n J.NoRoom
+    pub judge-ten : goesDown deed i hi len ≡ false → hasRoom c x ≡ false → JudgesWay (four h k m v) c from i d deed ks n Y.NoRoom
     unfolding readyVerdict
     judge-ten g r D o S e val y f =
         rw (stray D o S e val f true t, down D o e val false g, sym (room D o S e val f y) ∙ r)
 
-    pub judge-taken : goesDown deed i hi len ≡ false → hasRoom c x ≡ true → JudgesWay (four h k m v) c from i d deed ks n J.Taken
+    pub judge-taken : goesDown deed i hi len ≡ false → hasRoom c x ≡ true → JudgesWay (four h k m v) c from i d deed ks n Y.Taken
     unfolding readyVerdict
     judge-taken g r D o S e val y f =
         rw (stray D o S e val f true t, down D o e val false g, sym (room D o S e val f y) ∙ r)
 
 -- a way has one to eight keys
-module _ (T : Tables) (c : Counts) (from : Position) (i : ℕ) (d : List ℕ) (deed : Deed) (ks : List ℕ) (n : ℕ) (r : Judgement) where
+module _ (T : Tables) (c : Counts) (from : Position) (i : ℕ) (d : List ℕ) (deed : Deed) (ks : List ℕ) (n : ℕ) (r : ReadyJudgement) where
   pub judge-long : 8 < n → JudgesWay T c from i d deed ks n r
   judge-long l D o S e val y f =
       absurd (omega (arith, l, steps-whole i d deed ks n o e val .0, steps-whole i d deed ks n o e val .1))
@@ -162,6 +162,6 @@ module _ (T : Tables) (c : Counts) (from : Position) (i : ℕ) (d : List ℕ) (d
 pub parts-of : (op : Operation) (o : M.Operation) → Means op o → Parts (op .id) (op .deps .at) (op .deed) (op .way .keys) (op .way .n) o
 parts-of op o e = record { id = e .id; deps = e .deps; deed-is = e .edit .deed; keys = e .edit .keys; count = e .edit .count }
 
-pub judge-parts : (T : Tables) (c : Counts) (s : Position) (op : Operation) (r : Judgement)
+pub judge-parts : (T : Tables) (c : Counts) (s : Position) (op : Operation) (r : ReadyJudgement)
     → JudgesWay T c s (op .id) (op .deps .at) (op .deed) (op .way .keys) (op .way .n) r → JudgesReady T c s op r
 judge-parts T c s op r J D o S e val y f = J D o S (parts-of op o e) val y f

@@ -30,6 +30,11 @@ use Rattle.tables.specs.declared.Position.{Position}
 use Rattle.keeping.specs.Storing.{Stores}
 use Rattle.forecast.specs.declared.Weight.{Weight}
 use Rattle.deeds.specs.Deeds.{isInsert}
+use Rattle.judging.specs.declared.Refusal.the-variants as F
+use Rattle.judging.specs.declared.Readiness.{Readiness}
+use Rattle.judging.specs.declared.Readiness.the-variants as B
+use Rattle.judging.specs.declared.ReadyJudgement.{ReadyJudgement}
+use Rattle.judging.specs.declared.ReadyJudgement.the-variants as Y
 use Rattle.judging.specs.declared.Judgement.{Judgement}
 use Rattle.judging.specs.declared.Judgement.the-variants as J
 
@@ -59,27 +64,35 @@ goesDown deed i hi len = cond (eqb len 17) (cond (ltb hi i) false (isInsert deed
 abbrev pub isTaken : Judgement → Bool
 isTaken J.Taken = true
 isTaken J.Early = false
-isTaken J.Counter = false
-isTaken J.Repeat = false
-isTaken J.OwnDeps = false
-isTaken J.NoElement = false
-isTaken J.NotSmaller = false
-isTaken J.NoRoom = false
+isTaken (J.Refused r) = false
 
-unfoldable pub readyVerdict : M.Operation → Document → Judgement
-readyVerdict o D =
-    cond (astray D o) J.NoElement (cond (downward o) J.NotSmaller (cond (fits (apply o D)) J.Taken J.NoRoom))
+abbrev pub judgementOf : ReadyJudgement → Judgement
+judgementOf Y.Taken = J.Taken
+judgementOf Y.NoElement = J.Refused F.NoElement
+judgementOf Y.NotSmaller = J.Refused F.NotSmaller
+judgementOf Y.NoRoom = J.Refused F.NoRoom
 
--- 2, 3, 4, and whether it comes too early; an operation that none of them stops goes on
-unfoldable pub byCounters : M.Operation → Document → Judgement
+-- 2, 3, 4, and whether it is ready or comes too early
+unfoldable pub byCounters : M.Operation → Document → Readiness
 byCounters o D =
-    cond (notAbove o) J.Counter
-    (cond (repeated (D .seen) o) J.Repeat (cond (ownDepsBehind (D .seen) o) J.OwnDeps (cond (readyIn D o) J.Taken J.Early)))
+    cond (notAbove o) (B.Refused F.Counter)
+    (cond (repeated (D .seen) o) (B.Refused F.Repeat)
+    (cond (ownDepsBehind (D .seen) o) (B.Refused F.OwnDeps)
+    (cond (readyIn D o) B.Ready B.Early)))
+
+-- 8, 9, 10, of an operation that is ready
+unfoldable pub readyVerdict : M.Operation → Document → ReadyJudgement
+readyVerdict o D =
+    cond (astray D o) Y.NoElement (cond (downward o) Y.NotSmaller (cond (fits (apply o D)) Y.Taken Y.NoRoom))
+
+-- the one, and where it is ready the other
+abbrev pub verdictBy : Readiness → ReadyJudgement → Judgement
+verdictBy B.Ready j = judgementOf j
+verdictBy B.Early j = J.Early
+verdictBy (B.Refused r) j = J.Refused r
 
 unfoldable pub verdict : M.Operation → Document → Judgement
-verdict o D =
-    cond (notAbove o) J.Counter
-    (cond (repeated (D .seen) o) J.Repeat (cond (ownDepsBehind (D .seen) o) J.OwnDeps (cond (readyIn D o) (readyVerdict o D) J.Early)))
+verdict o D = verdictBy (byCounters o D) (readyVerdict o D)
 
 -- The promises.
 
@@ -108,17 +121,17 @@ Tops T c ks s =
 abbrev pub TopsIn : List ℕ → List ℕ → ℕ → List ℕ → Position → Type 0
 TopsIn h k rows ks s = (m v : List ℕ) (c : Counts) → rows ≡ c .rows → Tops (four h k m v) c ks s
 
-abbrev pub JudgesCounters : Counters → Operation → Judgement → Type 0
+abbrev pub JudgesCounters : Counters → Operation → Readiness → Type 0
 JudgesCounters seen op r = (D : Document) (o : M.Operation) → seen .at ≡ D .seen → Means op o → r ≡ byCounters o D
 
 -- with the stop s, from which the way is looked for
 
-abbrev pub JudgesWay : Tables → Counts → Position → ℕ → List ℕ → Deed → List ℕ → ℕ → Judgement → Type 0
+abbrev pub JudgesWay : Tables → Counts → Position → ℕ → List ℕ → Deed → List ℕ → ℕ → ReadyJudgement → Type 0
 JudgesWay T c s i d deed ks n r =
     (D : Document) (o : M.Operation) → Stores T c (D .seen) D → Parts i d deed ks n o → ValidOperation o → Newer D o → s ≡ topPosition o D
     → r ≡ readyVerdict o D
 
-abbrev pub JudgesReady : Tables → Counts → Position → Operation → Judgement → Type 0
+abbrev pub JudgesReady : Tables → Counts → Position → Operation → ReadyJudgement → Type 0
 JudgesReady T c s op r =
     (D : Document) (o : M.Operation) → Stores T c (D .seen) D → Means op o → ValidOperation o → Newer D o → s ≡ topPosition o D
     → r ≡ readyVerdict o D

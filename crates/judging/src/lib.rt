@@ -12,18 +12,38 @@ use tables::Counts;
 use tables::Position;
 ghost use mathlib.Core.Path.{_≡_};
 ghost use Rattle.tables.specs.Holding.{four};
-ghost use Rattle.judging.specs.Judging.{isTaken, TopsIn, JudgesCounters, JudgesWay, JudgesReady, Judges};
+ghost use Rattle.judging.specs.Judging.{judgementOf, isTaken, TopsIn, JudgesCounters, JudgesWay, JudgesReady, Judges};
 
-// What an operation comes to: it is taken; it comes too early; or the refusals of document 01, by name.
-pub enum Judgement {
-    Taken,
-    Early,
+// The refusals of an operation, by name: 2, 3, 4, 8, 9, 10.
+pub enum Refusal {
     Counter,
     Repeat,
     OwnDeps,
     NoElement,
     NotSmaller,
     NoRoom,
+}
+
+// What the counters say of an operation: it is ready; it comes too early; or 2, 3, 4.
+pub enum Readiness {
+    Ready,
+    Early,
+    Refused(Refusal),
+}
+
+// What an operation that is ready comes to: it is taken; or 8, 9, 10.
+pub enum ReadyJudgement {
+    Taken,
+    NoElement,
+    NotSmaller,
+    NoRoom,
+}
+
+// What an operation comes to: it is taken; it comes too early; or it is refused.
+pub enum Judgement {
+    Taken,
+    Early,
+    Refused(Refusal),
 }
 
 // 8, 9, 10, of an operation that is ready; `words` are those of its way, of n keys.
@@ -39,19 +59,19 @@ fn judge_way(
     deed: Deed,
     words: &[u64],
     n: usize,
-) -> Judgement
+) -> ReadyJudgement
     ensures { λ r. ⌜ JudgesWay (four (now (heads .entry)) (now (keys .entry)) (now (marks .entry)) (now (values .entry))) c top id
         (deps .at) deed (now (words .entry)) n r ⌝ }
 {
     if n > 8 {
-        return Judgement::NoElement;
+        return ReadyJudgement::NoElement;
     }
     if n == 0 {
-        return Judgement::NoElement;
+        return ReadyJudgement::NoElement;
     }
     let end = 3 * n;
     if end > words.len() {
-        return Judgement::NoElement;
+        return ReadyJudgement::NoElement;
     }
     let w = forecast::weigh(
         heads,
@@ -67,18 +87,18 @@ fn judge_way(
         &words[..end],
     );
     if !w.found {
-        return Judgement::NoElement;
+        return ReadyJudgement::NoElement;
     }
     if goes_down(deed, id, words[end - 3], words[end - 1]) {
-        return Judgement::NotSmaller;
+        return ReadyJudgement::NotSmaller;
     }
     if !is_small(c, w) {
-        return Judgement::NoRoom;
+        return ReadyJudgement::NoRoom;
     }
     if has_room(c, w) {
-        return Judgement::Taken;
+        return ReadyJudgement::Taken;
     }
-    Judgement::NoRoom
+    ReadyJudgement::NoRoom
 }
 
 // 8, 9, 10, of an operation that is ready, from where the search for its first key stops.
@@ -90,7 +110,7 @@ pub fn judge_ready(
     c: Counts,
     top: Position,
     op: Operation,
-) -> Judgement
+) -> ReadyJudgement
     ensures { λ r. ⌜ JudgesReady (four (now (heads .entry)) (now (keys .entry)) (now (marks .entry)) (now (values .entry))) c top op r ⌝ }
 {
     let way = op.way;
@@ -113,24 +133,24 @@ pub fn judge_ready(
 }
 
 // 2, 3, 4, and whether it comes too early.
-pub fn judge_counters(seen: Counters, op: Operation) -> Judgement
+pub fn judge_counters(seen: Counters, op: Operation) -> Readiness
     ensures { λ r. ⌜ JudgesCounters seen op r ⌝ }
 {
     let id = op.id;
     let deps = op.deps;
     if counters::not_above(id, deps) {
-        return Judgement::Counter;
+        return Readiness::Refused(Refusal::Counter);
     }
     if counters::repeated(seen, id) {
-        return Judgement::Repeat;
+        return Readiness::Refused(Refusal::Repeat);
     }
     if counters::own_deps_behind(seen, id, deps) {
-        return Judgement::OwnDeps;
+        return Readiness::Refused(Refusal::OwnDeps);
     }
     if counters::ready(seen, id, deps) {
-        return Judgement::Taken;
+        return Readiness::Ready;
     }
-    Judgement::Early
+    Readiness::Early
 }
 
 // Where the search for the way's first key stops: it is the longest, and made once for judging and carrying out.
@@ -160,12 +180,28 @@ pub fn judge(
 ) -> Judgement
     ensures { λ r. ⌜ Judges (four (now (heads .entry)) (now (keys .entry)) (now (marks .entry)) (now (values .entry))) c seen op r ⌝ }
 {
-    let early = judge_counters(seen, op);
-    if is_taken(early) {
-        let top = top_of(heads, keys, c.rows, op);
-        return judge_ready(heads, keys, marks, values, c, top, op);
+    let readiness = judge_counters(seen, op);
+    match readiness {
+        Readiness::Ready => {
+            let top = top_of(heads, keys, c.rows, op);
+            let j = judge_ready(heads, keys, marks, values, c, top, op);
+            judgement_of(j)
+        }
+        Readiness::Early => Judgement::Early,
+        Readiness::Refused(r) => Judgement::Refused(r),
     }
-    early
+}
+
+// The judgement on an operation, of that on one that is ready.
+pub fn judgement_of(j: ReadyJudgement) -> Judgement
+    ensures { λ r. ⌜ r ≡ judgementOf j ⌝ }
+{
+    match j {
+        ReadyJudgement::Taken => Judgement::Taken,
+        ReadyJudgement::NoElement => Judgement::Refused(Refusal::NoElement),
+        ReadyJudgement::NotSmaller => Judgement::Refused(Refusal::NotSmaller),
+        ReadyJudgement::NoRoom => Judgement::Refused(Refusal::NoRoom),
+    }
 }
 
 // Whether an operation is taken.
@@ -175,11 +211,6 @@ pub fn is_taken(answer: Judgement) -> bool
     match answer {
         Judgement::Taken => true,
         Judgement::Early => false,
-        Judgement::Counter => false,
-        Judgement::Repeat => false,
-        Judgement::OwnDeps => false,
-        Judgement::NoElement => false,
-        Judgement::NotSmaller => false,
-        Judgement::NoRoom => false,
+        Judgement::Refused(_) => false,
     }
 }

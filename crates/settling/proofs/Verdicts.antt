@@ -8,14 +8,19 @@ use Rattle.meaning.specs.Apply.{apply}
 use Rattle.meaning.specs.Limits.{fits}
 use Rattle.meaning.specs.Judge.{notAbove, repeated, ownDepsBehind, astray, downward}
 use Rattle.meaning.specs.Receive.{readyIn, dead, able}
-use Rattle.judging.specs.Judging.{isTaken, readyVerdict, verdict}
+use Rattle.judging.specs.Judging.{isTaken, byCounters, readyVerdict, verdictBy, verdict}
+use Rattle.judging.specs.declared.Refusal.the-variants as F
+use Rattle.judging.specs.declared.Readiness.the-variants as B
+use Rattle.judging.specs.declared.ReadyJudgement.the-variants as Y
 use Rattle.judging.specs.declared.Judgement.{Judgement}
 use Rattle.judging.specs.declared.Judgement.the-variants as J
 use Rattle.settling.specs.Verdicts.{deadly}
 
 -- the verdict by the tests 3, 4, ready, 8, 9, 10
-abbrev pub by : Bool → Bool → Bool → Bool → Bool → Bool → Judgement
-by r c d a w f = cond r J.Repeat (cond c J.OwnDeps (cond d (cond a J.NoElement (cond w J.NotSmaller (cond f J.Taken J.NoRoom))) J.Early))
+abbrev by : Bool → Bool → Bool → Bool → Bool → Bool → Judgement
+by r c d a w f =
+    verdictBy (cond r (B.Refused F.Repeat) (cond c (B.Refused F.OwnDeps) (cond d B.Ready B.Early)))
+    (cond a Y.NoElement (cond w Y.NotSmaller (cond f Y.Taken Y.NoRoom)))
 
 drops : (r c d a w f : Bool) → deadly (by r c d a w f) ≡ (r || c || (d && (a || w)))
 drops true c d a w f = refl
@@ -37,15 +42,15 @@ takes false false false a w f e = refl
 
 module _ (D : Document) (o : Operation) (above : notAbove o ≡ false) where
   pub deadly-verdict : deadly (verdict o D) ≡ dead D o
-  unfolding verdict readyVerdict dead
+  unfolding verdict byCounters readyVerdict dead
   deadly-verdict =
       rw above (drops (repeated (D .seen) o) (ownDepsBehind (D .seen) o) (readyIn D o) (astray D o) (downward o) (fits (apply o D)))
 
   pub taken-verdict : dead D o ≡ false → isTaken (verdict o D) ≡ able D o
-  unfolding verdict readyVerdict dead able
+  unfolding verdict byCounters readyVerdict dead able
   taken-verdict e =
       rw above (takes (repeated (D .seen) o) (ownDepsBehind (D .seen) o) (readyIn D o) (astray D o) (downward o) (fits (apply o D)) e)
 
   pub early-verdict : repeated (D .seen) o ≡ false → ownDepsBehind (D .seen) o ≡ false → readyIn D o ≡ false → verdict o D ≡ J.Early
-  unfolding verdict
+  unfolding verdict byCounters
   early-verdict r k d = rw (above, r, k, d)

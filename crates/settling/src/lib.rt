@@ -1,11 +1,12 @@
 // Document 01, "What is answered", last paragraph: the waiting messages of a terminal in lent memory are settled, in rounds. Each function
 // is safe on any memory.
 use judging::Judgement;
+use judging::Refusal;
 use judging::is_taken;
 use keeping::State;
 ghost use mathlib.Core.Path.{_≡_};
 ghost use Rattle.tables.specs.Holding.{four};
-ghost use Rattle.settling.specs.Verdicts.{deadly};
+ghost use Rattle.settling.specs.Verdicts.{hopeless, deadly};
 ghost use Rattle.settling.specs.Settling.{Looks, Sweeps, Rounds, Settles};
 
 // The dead are gone; the first of the others that can be applied, if one was found.
@@ -29,19 +30,27 @@ pub struct Settled {
     pub dropped: u64,
 }
 
-// 3, 4, 8, 9: a waiting message that is dropped.
+// 3, 4, 8, 9: a waiting message that is refused so is dropped.
+fn is_hopeless(r: Refusal) -> bool
+    ensures { λ b. ⌜ b ≡ hopeless r ⌝ }
+{
+    match r {
+        Refusal::Counter => false,
+        Refusal::Repeat => true,
+        Refusal::OwnDeps => true,
+        Refusal::NoElement => true,
+        Refusal::NotSmaller => true,
+        Refusal::NoRoom => false,
+    }
+}
+
 fn is_dead(j: Judgement) -> bool
-    ensures { λ r. ⌜ r ≡ deadly j ⌝ }
+    ensures { λ b. ⌜ b ≡ deadly j ⌝ }
 {
     match j {
-        Judgement::Repeat => true,
-        Judgement::OwnDeps => true,
-        Judgement::NoElement => true,
-        Judgement::NotSmaller => true,
         Judgement::Taken => false,
         Judgement::Early => false,
-        Judgement::Counter => false,
-        Judgement::NoRoom => false,
+        Judgement::Refused(r) => is_hopeless(r),
     }
 }
 

@@ -27,7 +27,11 @@ use Rattle.message.specs.Means.{Means}
 use Rattle.message.specs.Promises.{noMessage, Answers, ReadsMessage}
 use Rattle.message.specs.declared.Operation as M
 use Rattle.message.specs.declared.MessageRead.{MessageRead}
-use Rattle.judging.specs.Judging.{isTaken, readyVerdict, verdict}
+use Rattle.judging.specs.Judging.{isTaken, byCounters, readyVerdict, verdictBy, verdict}
+use Rattle.judging.specs.declared.Refusal.{Refusal}
+use Rattle.judging.specs.declared.Refusal.the-variants as F
+use Rattle.judging.specs.declared.Readiness.the-variants as B
+use Rattle.judging.specs.declared.ReadyJudgement.the-variants as Y
 use Rattle.apply.specs.Applying.{Applies}
 use Rattle.judging.specs.declared.Judgement.{Judgement}
 use Rattle.judging.specs.declared.Judgement.the-variants as J
@@ -36,28 +40,24 @@ use Rattle.waiting.specs.Waits.{idOf, TellsWaits, Puts}
 use Rattle.keeping.specs.declared.State.{State}
 use Rattle.settling.specs.declared.Settled.{Settled}
 use Rattle.terminal.specs.declared.Received.{Received}
-use Rattle.terminal.specs.Verdicts.{isEarly, refusalOf}
+use Rattle.terminal.specs.Refusals.{refusalOf}
 use Rattle.keeping.specs.Keeping.{Keeps}
 use Rattle.settling.specs.Settling.{Rests, Settles}
 use Rattle.terminal.specs.Promises.{Comes, Awaits, Kept, Receiving}
 use Rattle.settling.proofs.Sweeping.{counting}
-use Rattle.settling.proofs.Verdicts.{by}
 
 -- What a verdict on the document is for the terminal; e is what an early operation comes to.
 abbrev sort : Verdict → Judgement → Verdict
 sort e J.Taken = taken
 sort e J.Early = e
-sort e J.Counter = refused (only 2)
-sort e J.Repeat = refused (only 3)
-sort e J.OwnDeps = refused (only 4)
-sort e J.NoElement = refused (only 8)
-sort e J.NotSmaller = refused (only 9)
-sort e J.NoRoom = refused (only 10)
+sort e (J.Refused r) = refused (receiptAnswer (refusalOf r))
 
 sorted : (n r c d a w f : Bool) (e : Verdict)
     → cond n (refused (only 2)) (cond r (refused (only 3)) (cond c (refused (only 4))
     (cond d (cond a (refused (only 8)) (cond w (refused (only 9)) (cond f taken (refused (only 10))))) e)))
-    ≡ sort e (cond n J.Counter (by r c d a w f))
+    ≡ sort e (verdictBy
+    (cond n (B.Refused F.Counter) (cond r (B.Refused F.Repeat) (cond c (B.Refused F.OwnDeps) (cond d B.Ready B.Early))))
+    (cond a Y.NoElement (cond w Y.NotSmaller (cond f Y.Taken Y.NoRoom))))
 sorted true r c d a w f e = refl
 sorted false true c d a w f e = refl
 sorted false false true d a w f e = refl
@@ -67,49 +67,28 @@ sorted false false false true false false true e = refl
 sorted false false false true false false false e = refl
 sorted false false false false a w f e = refl
 
-sort-taken : (e : Verdict) (v : Judgement) → isTaken v ≡ true → sort e v ≡ taken
-sort-taken e J.Taken t = refl
-sort-taken e J.Early t = absurd (false≢true t)
-sort-taken e J.Counter t = absurd (false≢true t)
-sort-taken e J.Repeat t = absurd (false≢true t)
-sort-taken e J.OwnDeps t = absurd (false≢true t)
-sort-taken e J.NoElement t = absurd (false≢true t)
-sort-taken e J.NotSmaller t = absurd (false≢true t)
-sort-taken e J.NoRoom t = absurd (false≢true t)
-
-sort-early : (e : Verdict) (v : Judgement) → isEarly v ≡ true → sort e v ≡ e
-sort-early e J.Taken t = absurd (false≢true t)
-sort-early e J.Early t = refl
-sort-early e J.Counter t = absurd (false≢true t)
-sort-early e J.Repeat t = absurd (false≢true t)
-sort-early e J.OwnDeps t = absurd (false≢true t)
-sort-early e J.NoElement t = absurd (false≢true t)
-sort-early e J.NotSmaller t = absurd (false≢true t)
-sort-early e J.NoRoom t = absurd (false≢true t)
-
-sort-refused : (e : Verdict) (v : Judgement) → isTaken v ≡ false → isEarly v ≡ false → sort e v ≡ refused (receiptAnswer (refusalOf v))
-sort-refused e J.Taken t u = absurd (true≢false t)
-sort-refused e J.Early t u = absurd (true≢false u)
-sort-refused e J.Counter t u = refl
-sort-refused e J.Repeat t u = refl
-sort-refused e J.OwnDeps t u = refl
-sort-refused e J.NoElement t u = refl
-sort-refused e J.NotSmaller t u = refl
-sort-refused e J.NoRoom t u = refl
-
 judge-sorted : (o : Operation) (X : Terminal) → judge o X ≡ sort (judgeEarly o (X .waiting)) (verdict o (X .document))
-unfolding judge judgeReady verdict readyVerdict
+unfolding judge judgeReady verdict byCounters readyVerdict
 judge-sorted o X =
     let D = X .document in
     sorted (notAbove o) (repeated (D .seen) o) (ownDepsBehind (D .seen) o) (readyIn D o) (astray D o) (downward o) (fits (apply o D)) _
 
-early-above : (o : Operation) (X : Terminal) → isEarly (verdict o (X .document)) ≡ true → notAbove o ≡ false
-unfolding verdict
+-- by the verdict that was found
+judge-is : (o : Operation) (X : Terminal) (v : Judgement) → verdict o (X .document) ≡ v → judge o X ≡ sort (judgeEarly o (X .waiting)) v
+judge-is o X v e = judge-sorted o X ∙ ap (λ z. sort (judgeEarly o (X .waiting)) z) e
+
+abbrev isEarly : Judgement → Bool
+isEarly J.Taken = false
+isEarly J.Early = true
+isEarly (J.Refused r) = false
+
+early-above : (o : Operation) (X : Terminal) → verdict o (X .document) ≡ J.Early → notAbove o ≡ false
+unfolding verdict byCounters
 early-above o X e = go (notAbove o) refl
   where
     go : (b : Bool) → notAbove o ≡ b → notAbove o ≡ false
     go false q = q
-    go true q = absurd (false≢true (rw q at e))
+    go true q = absurd (false≢true (ap isEarly (rw q at e)))
 
 -- An operation that comes too early.
 module _ (t : List ℕ) (s : State) (op : M.Operation) (b : Bool) (W : TellsWaits t (s .waiting) (op .id) b) where
@@ -185,43 +164,40 @@ module _ (T : Tables) (t : List ℕ) (s : State) (bytes : List ℕ) (m : Message
         → o .answer ≡ verdict x (X .document)
     verdict-is X K x v e = A .answers (X .document) x (K .document) e v
 
-    pub receives-taken : isTaken (o .answer) ≡ true → (r : Settled) (N : Tables) (t′ : List ℕ)
+    pub receives-taken : o .answer ≡ J.Taken → (r : Settled) (N : Tables) (t′ : List ℕ)
         → Settles U t (record { counts = o .counts; seen = o .seen; waiting = s .waiting }) r N t′
         → Receiving T t s bytes (record { answer = R.Applied (r .applied + 1) (r .dropped); state = r .state }) N t′
     unfolding receive finish
     receives-taken y r N t′ S = record {
       receives = λ X K. reading X _ N t′ ok (λ x v e.
-          let j : judge x X ≡ taken =
-          judge-sorted x X
-          ∙ sort-taken (judgeEarly x (X .waiting)) (verdict x (X .document)) (ap (λ z. isTaken z) (sym (verdict-is X K x v e)) ∙ y) in
-          let Y : Terminal = record { document = apply x (X .document); waiting = X .waiting } in
-          let q = S .settles Y
-          (record { document = A .takes (X .document) x (K .document) e v y; waiting = K .waiting; sent = K .sent }) in
-          let n : r .applied + 1 ≡ suc (length (settle Y .applied)) = omega (arith, q .applied) in
+          let j : judge x X ≡ taken = judge-is x X J.Taken (sym (verdict-is X K x v e) ∙ y) in
+          let Z : Terminal = record { document = apply x (X .document); waiting = X .waiting } in
+          let k = A .takes (X .document) x (K .document) e v (ap (λ z. isTaken z) y) in
+          let q = S .settles Z (record { document = k; waiting = K .waiting; sent = K .sent }) in
+          let n : r .applied + 1 ≡ suc (length (settle Z .applied)) = omega (arith, q .applied) in
           rw j (record { answers = rw (n, q .dropped) refl; keeps = q .keeps }));
       stays = λ u. absurd u;
     }
 
-    module _ (no : isTaken (o .answer) ≡ false) where
-      pub receives-early : isEarly (o .answer) ≡ true → (r : Received) (t′ : List ℕ) → Awaits t s (m .op) r t′
-          → Receiving T t s bytes r U t′
-      unfolding receive
-      receives-early y r t′ W = record {
-        receives = λ X K. reading X r U t′ ok (λ x v e.
-            let w : isEarly (verdict x (X .document)) ≡ true = ap (λ z. isEarly z) (sym (verdict-is X K x v e)) ∙ y in
-            rw (judge-sorted x X, sort-early (judgeEarly x (X .waiting)) (verdict x (X .document)) w, A .refuses no .0)
-            (W .waits T X x K e (record { valid = v; above = early-above x X w })));
-        stays = λ u. (A .refuses no .0, W .stays u .0, W .stays u .1);
-      }
+    pub receives-early : o .answer ≡ J.Early → (r : Received) (t′ : List ℕ) → Awaits t s (m .op) r t′ → Receiving T t s bytes r U t′
+    unfolding receive
+    receives-early y r t′ W =
+        let same = A .refuses (ap (λ z. isTaken z) y) .0 in
+        record {
+          receives = λ X K. reading X r U t′ ok (λ x v e.
+              let w : verdict x (X .document) ≡ J.Early = sym (verdict-is X K x v e) ∙ y in
+              rw (judge-is x X J.Early w, same) (W .waits T X x K e (record { valid = v; above = early-above x X w })));
+          stays = λ u. (same, W .stays u .0, W .stays u .1);
+        }
 
-      pub receives-refused : isEarly (o .answer) ≡ false → (a : Receipt) → a ≡ refusalOf (o .answer)
-          → Receiving T t s bytes (record { answer = a; state = s }) U t
-      unfolding receive finish
-      receives-refused y a q = record {
-        receives = λ X K. reading X _ U t ok (λ x v e.
-            let j : judge x X ≡ refused (receiptAnswer (refusalOf (o .answer))) =
-            judge-sorted x X ∙ (ap (λ z. sort (judgeEarly x (X .waiting)) z) (sym (verdict-is X K x v e))
-            ∙ sort-refused (judgeEarly x (X .waiting)) (o .answer) no y) in
-            rw (j, A .refuses no .0) (record { answers = ap receiptAnswer q; keeps = K }));
-        stays = λ u. (A .refuses no .0, refl, refl);
-      }
+    pub receives-refused : (f : Refusal) → o .answer ≡ J.Refused f → (a : Receipt) → a ≡ refusalOf f
+        → Receiving T t s bytes (record { answer = a; state = s }) U t
+    unfolding receive finish
+    receives-refused f y a q =
+        let same = A .refuses (ap (λ z. isTaken z) y) .0 in
+        record {
+          receives = λ X K. reading X _ U t ok (λ x v e.
+              let j : judge x X ≡ refused (receiptAnswer (refusalOf f)) = judge-is x X (J.Refused f) (sym (verdict-is X K x v e) ∙ y) in
+              rw (j, same) (record { answers = ap receiptAnswer q; keeps = K }));
+          stays = λ u. (same, refl, refl);
+        }

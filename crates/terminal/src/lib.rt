@@ -1,17 +1,16 @@
 // Document 01, "What is answered": a terminal in lent memory receives messages in any order. A message that comes too early waits; after
 // one that is applied the waiting ones are settled. Each function is safe on any memory.
-mod sorts;
-
-use judging::is_taken;
+use judging::Judgement;
+use judging::Refusal;
 use keeping::State;
 use meaning::Counters;
 use meaning::Receipt;
 use message::Operation;
 use settling::settle;
-use sorts::is_early;
-use sorts::refusal;
 use tables::Counts;
+ghost use mathlib.Core.Path.{_≡_};
 ghost use Rattle.tables.specs.Holding.{four};
+ghost use Rattle.terminal.specs.Refusals.{refusalOf};
 ghost use Rattle.terminal.specs.Promises.{Empties, Awaits, Receiving};
 
 // What receiving comes to.
@@ -34,6 +33,20 @@ pub fn empty() -> State
         counts,
         seen,
         waiting: 0,
+    }
+}
+
+// The answer to a refusal.
+fn refusal(f: Refusal) -> Receipt
+    ensures { λ r. ⌜ r ≡ refusalOf f ⌝ }
+{
+    match f {
+        Refusal::Counter => Receipt::Counter,
+        Refusal::Repeat => Receipt::Repeat,
+        Refusal::OwnDeps => Receipt::OwnDeps,
+        Refusal::NoElement => Receipt::NoElement,
+        Refusal::NotSmaller => Receipt::NotSmaller,
+        Refusal::NoRoom => Receipt::NoRoom,
     }
 }
 
@@ -96,25 +109,27 @@ pub fn receive(
     let seen = s.seen;
     let o = apply::apply(heads, keys, marks, values, c, seen, op);
     let j = o.answer;
-    if is_taken(j) {
-        let counts = o.counts;
-        let after = o.seen;
-        let next = State {
-            counts,
-            seen: after,
-            waiting: s.waiting,
-        };
-        let r = settle(heads, keys, marks, values, waiting, next);
-        let state = r.state;
-        let answer = Receipt::Applied {
-            applied: r.applied + 1,
-            dropped: r.dropped,
-        };
-        return Received { answer, state };
+    match j {
+        Judgement::Taken => {
+            let counts = o.counts;
+            let after = o.seen;
+            let next = State {
+                counts,
+                seen: after,
+                waiting: s.waiting,
+            };
+            let r = settle(heads, keys, marks, values, waiting, next);
+            let state = r.state;
+            let answer = Receipt::Applied {
+                applied: r.applied + 1,
+                dropped: r.dropped,
+            };
+            Received { answer, state }
+        }
+        Judgement::Early => wait(waiting, s, op),
+        Judgement::Refused(f) => {
+            let answer = refusal(f);
+            Received { answer, state: s }
+        }
     }
-    if is_early(j) {
-        return wait(waiting, s, op);
-    }
-    let answer = refusal(j);
-    Received { answer, state: s }
 }
