@@ -10,13 +10,13 @@ use lib.ListN.{take, drop}
 use Rattle.meaning.specs.Receive.{Terminal}
 use Rattle.theorems.specs.Determined.{receives-once}
 use Rattle.tables.specs.Words.{Tables}
-use Rattle.tables.specs.Once.{held-once}
 use Rattle.stream.specs.Pieces.{Piece, whole, tooLong}
 use Rattle.stream.specs.Steps.{Cuts, rests, hands}
 use Rattle.stream.specs.Steps as Steps
 use Rattle.stream.specs.declared.Cut.{Cut}
 use Rattle.stream.specs.declared.Step.the-variants.{Message, TooLong, More}
 use Rattle.keeping.specs.Keeping.{Keeps}
+use Rattle.keeping.specs.Once.{keeps-once}
 use Rattle.keeping.specs.declared.State.{State}
 use Rattle.feed.specs.Feeding.{Takes, none, receives, passes, Took, AllFed}
 use Rattle.feed.specs.declared.Fed.{Fed}
@@ -62,15 +62,6 @@ cuts-once (Steps.passes i p) e _ (hands j q) = absurd (let z : _≡_ {A = ℕ} 0
 cuts-once {b} {last} (Steps.passes i p) e _ (Steps.passes {ps = qs} j q) =
     let k = cuts-once p e qs (subst (λ y. Cuts b last y qs e) (long-once (sym j ∙ i)) q) in
     (ap (λ l. tooLong ∷ l) (k .0), k .1)
-
--- A terminal is kept by one memory and one state only.
-keeps-once : {T U : Tables} {t t′ : List ℕ} {s s′ : State} {X : Terminal} → Keeps T t s X → Keeps U t′ s′ X
-    → (T ≡ U) × (t ≡ t′) × (s ≡ s′)
-keeps-once {T} {U} {t} {t′} {s} {s′} p q =
-    let d = held-once T U (s .counts) (s′ .counts) _ (p .document .rows) (q .document .rows) in
-    let n = p .document .counters ∙ sym (q .document .counters) in
-    let w = p .waiting .count ∙ sym (q .waiting .count) in
-    (d .0, p .waiting .table ∙ sym (q .waiting .table), λ i. record { counts = d .1 i; seen = record { at = n i }; waiting = w i })
 
 -- Any two outcomes of feeding the same bytes to memory that keeps a terminal are equal: state and cut, and every word.
 pub take-in-once : {T U W : Tables} {t t′ t″ : List ℕ} {s : State} {b : List ℕ} {c : Cut} {last : Bool} {r q : Fed} {X : Terminal}

@@ -1,3 +1,4 @@
 pub mod Storing
 pub mod Keeping
 pub mod Steady
+pub mod Once

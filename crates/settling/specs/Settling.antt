@@ -66,6 +66,8 @@ pub record Rests (X : Terminal) (r : Settled) (U : Tables) (t′ : List ℕ) : T
   pub applied : r .applied ≡ length (settle X .applied)
   pub dropped : r .dropped ≡ settle X .dropped
 
+-- of any memory; where more wait than there is room for, nothing is done
 pub record Settles (T : Tables) (t : List ℕ) (s : State) (r : Settled) (U : Tables) (t′ : List ℕ) : Type 0 where
   pub few : r .applied ≤ 64
+  pub beyond : 64 < s .waiting → (r ≡ record { state = s; applied = 0; dropped = 0 }) × (U ≡ T) × (t′ ≡ t)
   pub settles : (X : Terminal) → Keeps T t s X → Rests X r U t′

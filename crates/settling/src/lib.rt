@@ -4,6 +4,7 @@ use judging::Judgement;
 use judging::Refusal;
 use judging::is_taken;
 use keeping::State;
+use waiting::MOST;
 ghost use mathlib.Core.Path.{_≡_};
 ghost use Rattle.tables.specs.Holding.{four};
 ghost use Rattle.settling.specs.Verdicts.{hopeless, deadly};
@@ -185,7 +186,7 @@ pub fn settle(
         (now (waiting .entry)) s r
         (four (now (heads .exit)) (now (keys .exit)) (now (marks .exit)) (now (values .exit))) (now (waiting .exit)) ⌝ }
 {
-    if s.waiting > 64 {
+    if s.waiting > MOST {
         return Settled {
             state: s,
             applied: 0,

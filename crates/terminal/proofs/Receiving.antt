@@ -2,7 +2,7 @@
 -- Assumes nothing.
 use Prim.Native.Nat.{ℕ, suc, _+_, _≤_, _<_}
 use native.Mathlib.Omega.{arith}
-use mathlib.Core.Path.{_≡_, refl, sym, ap, _∙_}
+use mathlib.Core.Path.{_≡_, refl, sym, ap, subst, _∙_}
 use mathlib.Core.Bool.{Bool, true, false, cond, false≢true, true≢false}
 use mathlib.Core.List.{List}
 use lib.Dec.{leb}
@@ -41,7 +41,9 @@ use Rattle.keeping.specs.declared.State.{State}
 use Rattle.settling.specs.declared.Settled.{Settled}
 use Rattle.terminal.specs.declared.Received.{Received}
 use Rattle.terminal.specs.Refusals.{refusalOf}
-use Rattle.keeping.specs.Keeping.{Keeps}
+use Rattle.keeping.specs.Keeping.{Keeps, withinMemory, keeps-within}
+use Rattle.keeping.specs.Once.{keeps-once}
+use Rattle.theorems.specs.Determined.{receives-once}
 use Rattle.settling.specs.Settling.{Rests, Settles}
 use Rattle.terminal.specs.Promises.{Comes, Awaits, Kept, Receiving}
 use Rattle.settling.proofs.Sweeping.{counting}
@@ -133,10 +135,24 @@ module _ (t : List ℕ) (s : State) (op : M.Operation) (b : Bool) (W : TellsWait
     stays = λ u. absurd u;
   }
 
+-- A state that counts more than has room in the tables.
+pub receives-beyond : (T : Tables) (t : List ℕ) (s : State) (bytes : List ℕ) → withinMemory s ≡ false
+    → Receiving T t s bytes (record { answer = R.NoRoom; state = s }) T t
+receives-beyond T t s bytes e = record {
+  receives = λ X K. absurd (true≢false (sym (keeps-within K) ∙ e));
+  beyond = λ _. refl;
+  stays = λ _. (refl, refl, refl);
+}
+
 -- A message.
-module _ (T : Tables) (t : List ℕ) (s : State) (bytes : List ℕ) (m : MessageRead) (M : ReadsMessage bytes m) where
+module _ (T : Tables) (t : List ℕ) (s : State) (bytes : List ℕ) (room : withinMemory s ≡ true) (m : MessageRead)
+    (M : ReadsMessage bytes m) where
+  -- the state has room
+  inside : {r : Received} → withinMemory s ≡ false → r ≡ record { answer = R.NoRoom; state = s }
+  inside e = absurd (true≢false (sym room ∙ e))
+
   pub receives-nothing : m .ok ≡ false → Receiving T t s bytes (record { answer = R.Layout; state = s }) T t
-  receives-nothing f = record { receives = λ X K. go X K (M .says) (M .answers); stays = λ _. (refl, refl, refl) }
+  receives-nothing f = record { receives = λ X K. go X K (M .says) (M .answers); beyond = inside; stays = λ _. (refl, refl, refl) }
     where
       go : (X : Terminal) → Keeps T t s X → (y : Says ValidOperation message bytes) → Answers (Means (m .op)) (m ≡ noMessage) (m .ok) y
           → Kept X bytes (record { answer = R.Layout; state = s }) T t
@@ -176,6 +192,7 @@ module _ (T : Tables) (t : List ℕ) (s : State) (bytes : List ℕ) (m : Message
           let q = S .settles Z (record { document = k; waiting = K .waiting; sent = K .sent }) in
           let n : r .applied + 1 ≡ suc (length (settle Z .applied)) = omega (arith, q .applied) in
           rw j (record { answers = rw (n, q .dropped) refl; keeps = q .keeps }));
+      beyond = inside;
       stays = λ u. absurd u;
     }
 
@@ -187,6 +204,7 @@ module _ (T : Tables) (t : List ℕ) (s : State) (bytes : List ℕ) (m : Message
           receives = λ X K. reading X r U t′ ok (λ x v e.
               let w : verdict x (X .document) ≡ J.Early = sym (verdict-is X K x v e) ∙ y in
               rw (judge-is x X J.Early w, same) (W .waits T X x K e (record { valid = v; above = early-above x X w })));
+          beyond = inside;
           stays = λ u. (same, W .stays u .0, W .stays u .1);
         }
 
@@ -199,5 +217,24 @@ module _ (T : Tables) (t : List ℕ) (s : State) (bytes : List ℕ) (m : Message
           receives = λ X K. reading X _ U t ok (λ x v e.
               let j : judge x X ≡ refused (receiptAnswer (refusalOf f)) = judge-is x X (J.Refused f) (sym (verdict-is X K x v e) ∙ y) in
               rw (j, same) (record { answers = ap receiptAnswer q; keeps = K }));
+          beyond = inside;
           stays = λ u. (same, refl, refl);
         }
+
+-- Two results of receiving are equal, of every memory that keeps a terminal, and of a state that has no room: answer, state and every word.
+module _ {T U W : Tables} {t t′ t″ : List ℕ} {s : State} {bytes : List ℕ} {r q : Received} (f : Receiving T t s bytes r U t′)
+    (g : Receiving T t s bytes q W t″) where
+  pub receive-once : (X : Terminal) → Keeps T t s X → (r ≡ q) × (U ≡ W) × (t′ ≡ t″)
+  receive-once X K =
+      let m = f .receives X K in
+      let n = g .receives X K in
+      let e = receives-once X bytes (r .answer) (q .answer) (m .exit) (n .exit) (m .receives) (n .receives) in
+      let k = keeps-once (subst (Keeps U t′ (r .state)) (e .1) (m .keeps)) (n .keeps) in
+      (λ i. record { answer = e .0 i; state = k .2 i }, k .0, k .1)
+
+  pub receive-once-beyond : withinMemory s ≡ false → (r ≡ q) × (U ≡ W) × (t′ ≡ t″)
+  receive-once-beyond e = (
+    f .beyond e ∙ sym (g .beyond e),
+    f .stays (rw (f .beyond e) tt) .0 ∙ sym (g .stays (rw (g .beyond e) tt) .0),
+    f .stays (rw (f .beyond e) tt) .1 ∙ sym (g .stays (rw (g .beyond e) tt) .1),
+  )

@@ -8,6 +8,12 @@ use meaning::Receipt;
 use message::Operation;
 use settling::settle;
 use tables::Counts;
+use tables::HEADS;
+use tables::KEYS;
+use tables::MARKS;
+use tables::VALUES;
+use waiting::MOST;
+use waiting::WAITING;
 ghost use mathlib.Core.Path.{_≡_};
 ghost use Rattle.tables.specs.Holding.{four};
 ghost use Rattle.terminal.specs.Refusals.{refusalOf};
@@ -62,7 +68,7 @@ fn wait(waiting: &mut [u64], s: State, op: Operation) -> Received
             state: s,
         };
     }
-    if n >= 64 {
+    if n >= MOST {
         return Received {
             answer: Receipt::WaitingFull,
             state: s,
@@ -82,13 +88,14 @@ fn wait(waiting: &mut [u64], s: State, op: Operation) -> Received
     }
 }
 
-// Receives a message: it is applied and the waiting ones are settled; or it waits; or it is refused, and not one lent word has changed.
+// Receives a message: it is applied and the waiting ones are settled; or it waits; or it is refused, and not one lent word has changed. A
+// state that counts more than has room in the tables is answered 10.
 pub fn receive(
-    heads: &mut [u64],
-    keys: &mut [u64],
-    marks: &mut [u64],
-    values: &mut [u64],
-    waiting: &mut [u64],
+    heads: &mut [u64; HEADS],
+    keys: &mut [u64; KEYS],
+    marks: &mut [u64; MARKS],
+    values: &mut [u64; VALUES],
+    waiting: &mut [u64; WAITING],
     s: State,
     bytes: &[u8],
 ) -> Received
@@ -97,6 +104,12 @@ pub fn receive(
         (now (bytes .entry)) r (four (now (heads .exit)) (now (keys .exit)) (now (marks .exit)) (now (values .exit)))
         (now (waiting .exit)) ⌝ }
 {
+    if !keeping::within(s) {
+        return Received {
+            answer: Receipt::NoRoom,
+            state: s,
+        };
+    }
     let m = message::take_message(bytes);
     if !m.ok {
         return Received {

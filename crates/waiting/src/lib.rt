@@ -16,6 +16,12 @@ use words::open;
 use words::rank_rows;
 ghost use Rattle.waiting.specs.Waits.{TellsEarly, Tells, TellsWaits, Puts, TakesOut};
 
+// How many words the table has, how many an operation takes, and how many operations wait at most. Contracts don't see these numbers: those
+// of the same value stand in specs/Waits and specs/Rows.
+pub const WAITING: usize = 2560;
+
+pub const MOST: usize = 64;
+
 // Whether the operation at i comes too early where these are the entries of seen: it isn't ready, and not dead by the entry of its own
 // terminal. That entry alone tells it of most.
 pub fn early(t: &[u64], n: usize, i: usize, seen: &[u32; 8]) -> bool

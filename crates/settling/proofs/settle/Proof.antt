@@ -25,7 +25,11 @@ abbrev μ-loop : tie.MeasureT-loop
     state .waiting
 
 returns : tie.Need-returns Inv-loop μ-loop
-returns c = record { few = omega arith; settles = λ X K. absurd (omega (arith, K .waiting .fit, c .if1 .taken)) }
+returns c = record {
+  few = omega arith;
+  beyond = λ _. (refl, refl, refl);
+  settles = λ X K. absurd (omega (arith, K .waiting .fit, c .if1 .taken));
+}
 
 add-dropped : tie.Need-add-dropped Inv-loop μ-loop
 add-dropped c =
@@ -75,6 +79,7 @@ returns-2 c =
     let at-loop = at-round .before .before .before .before .before .before in
     record {
       few = omega (arith, at-loop .loop .inv .0, at-loop .loop .inv .1);
+      beyond = λ h. absurd (omega (arith, h, at-loop .loop .inv .1));
       settles = λ X K. comes-to-rest X _ _ _ _ _ _ _ _ (at-round .round .ensures) (at-loop .loop .inv .3 X K)
           (not-true _ (c .if2 .taken));
     }
