@@ -64,6 +64,9 @@ pub struct Key {
     pub len: u64,
 }
 
+// the longest key has 16 bytes
+pub const LONGEST: u64 = 16;
+
 pub const ELEMENT: u64 = 17;
 
 pub const CARET: u64 = 18;

@@ -8,12 +8,14 @@ use mathlib.Core.Bool.{Bool, true, false}
 use mathlib.Core.List.{List, [], _∷_}
 use lib.ListN.{getD, take, drop, length-take, drop-of-length-le}
 use lib.Seq.{drop-cons, getD-take, getD-drop, drop-drop}
+use Rattle.tables.specs.declared.Head.{Head}
 use Rattle.tables.specs.declared.Position.{Position}
 use Rattle.tables.specs.declared.Search.{Search}
-use Rattle.tables.specs.Seek.{three, threeAt, goesOver, further, seekWords, Searches, sought}
+use Rattle.tables.specs.Heads.{headIn, keyIn, keyAt}
+use Rattle.tables.specs.Seek.{goesOver, further, seekWords, Searches, sought}
 
 -- one row
-seek-cons : (w : Search) (h : ℕ) (hs ks : List ℕ) (s : Position) (b : Bool) → goesOver w h (three ks) ≡ b
+seek-cons : (w : Search) (h : ℕ) (hs ks : List ℕ) (s : Position) (b : Bool) → goesOver w (headIn h) (keyIn ks) ≡ b
     → seekWords w (h ∷ hs) ks s ≡ elim b [ true ↦ seekWords w hs (drop 3 ks) (further s h) | false ↦ s ]
 unfolding seekWords
 seek-cons w h hs ks s b e = rw (e, seekWords)
@@ -35,14 +37,14 @@ module _ (w : Search) (heads keys : List ℕ) (rows : ℕ) (s : Position) (ok : 
         drop-cons (take rows heads) (s .row) 0 (omega (arith, length-take rows heads, ok .in-heads))
         ∙ ap (_∷ drop (suc (s .row)) (take rows heads)) (getD-take rows heads (s .row) 0 lt)
 
-    keys-here : three (drop (3 * s .row) keys) ≡ threeAt keys (s .row)
+    keys-here : keyIn (drop (3 * s .row) keys) ≡ keyAt keys (s .row)
     keys-here = λ i. record {
       hi = (getD-drop (3 * s .row) keys 0 0 ∙ ap (λ n. getD keys n 0) (let z : 3 * s .row + 0 ≡ 3 * s .row = omega arith in z)) i;
       lo = getD-drop (3 * s .row) keys 1 0 i;
       len = getD-drop (3 * s .row) keys 2 0 i;
     }
 
-    seeks : (b : Bool) → goesOver w (getD heads (s .row) 0) (threeAt keys (s .row)) ≡ b
+    seeks : (b : Bool) → goesOver w (headIn (getD heads (s .row) 0)) (keyAt keys (s .row)) ≡ b
         → sought w heads keys rows s
         ≡ elim b [
           | true ↦ seekWords w (drop (suc (s .row)) (take rows heads)) (drop 3 (drop (3 * s .row) keys)) (further s (getD heads (s .row) 0))
@@ -50,19 +52,20 @@ module _ (w : Search) (heads keys : List ℕ) (rows : ℕ) (s : Position) (ok : 
         ]
     seeks b e =
         ap (λ hs. seekWords w hs (drop (3 * s .row) keys) s) heads-here
-        ∙ seek-cons w (getD heads (s .row) 0) _ (drop (3 * s .row) keys) s b (ap (goesOver w (getD heads (s .row) 0)) keys-here ∙ e)
+        ∙ seek-cons w (getD heads (s .row) 0) _ (drop (3 * s .row) keys) s b (ap (goesOver w (headIn (getD heads (s .row) 0))) keys-here ∙ e)
 
     -- it stops here
-    pub sought-stop : goesOver w (getD heads (s .row) 0) (threeAt keys (s .row)) ≡ false → sought w heads keys rows s ≡ s
-    sought-stop e = seeks false e
+    pub sought-stop : (h : Head) → h ≡ headIn (getD heads (s .row) 0) → goesOver w h (keyAt keys (s .row)) ≡ false
+        → sought w heads keys rows s ≡ s
+    sought-stop h q e = seeks false (ap (λ h. goesOver w h (keyAt keys (s .row))) (sym q) ∙ e)
 
     -- it goes on
-    pub sought-on : goesOver w (getD heads (s .row) 0) (threeAt keys (s .row)) ≡ true
+    pub sought-on : (h : Head) → h ≡ headIn (getD heads (s .row) 0) → goesOver w h (keyAt keys (s .row)) ≡ true
         → sought w heads keys rows s ≡ sought w heads keys rows (further s (getD heads (s .row) 0))
-    sought-on e =
+    sought-on h q e =
         let z : 3 * s .row + 3 ≡ 3 * (s .row + 1) = omega arith in
         let t = further s (getD heads (s .row) 0) in
-        seeks true e
+        seeks true (ap (λ h. goesOver w h (keyAt keys (s .row))) (sym q) ∙ e)
         ∙ (ap (λ ks. seekWords w (drop (suc (s .row)) (take rows heads)) ks t) (drop-drop 3 (3 * s .row) keys ∙ ap (λ n. drop n keys) z)
         ∙ ap (λ n. seekWords w (drop n (take rows heads)) (drop (3 * (s .row + 1)) keys) t) (sym (add-one (s .row))))
 

@@ -15,8 +15,11 @@ use Rattle.rows.specs.Blocks.{passed, over, at, keyBelow, isKey, isId, isGreate
 use Rattle.readers.specs.Words.{pack}
 use Rattle.readers.specs.Order.{words-order}
 use Rattle.tables.specs.Words.{bit, side, headWord, depthIn, sideIn, marksAt, valuesAt, spotWords, headsOf, keysOf}
-use Rattle.tables.specs.Seek.{three, turn, turnNumber, passesOne, goesOver, isSought, further, seekWords}
+use Rattle.tables.specs.Heads.{headIn, keyIn}
+use Rattle.tables.specs.Seek.{turn, turnNumber, passesOne, goesOver, isSought, further, seekWords}
 use Rattle.tables.specs.declared.Position.{Position}
+use Rattle.readers.specs.declared.Key.{Key}
+use Rattle.tables.specs.declared.Aim.the-variants as A
 use Rattle.tables.specs.declared.Search.{Search}
 
 -- a row that its words can hold
@@ -69,9 +72,9 @@ after s [] = s
 after s (r ∷ rs) = after (nextRow s r) rs
 
 -- the words of the row at the start
-pub three-here : (p : Spot) (ks qs : List ℕ) → three ((spotWords p ++ ks) ++ qs) ≡ three (spotWords p)
-three-here (inMap k) ks qs = refl
-three-here (inList i) ks qs = refl
+pub key-here : (p : Spot) (ks qs : List ℕ) → keyIn ((spotWords p ++ ks) ++ qs) ≡ keyIn (spotWords p)
+key-here (inMap k) ks qs = refl
+key-here (inList i) ks qs = refl
 
 keys-on : (p : Spot) (ks qs : List ℕ) → drop 3 ((spotWords p ++ ks) ++ qs) ≡ ks ++ qs
 keys-on (inMap k) ks qs = refl
@@ -79,7 +82,7 @@ keys-on (inList i) ks qs = refl
 
 -- the search w goes over, of the rows of its depth, those whose spot passes
 abbrev pub Agrees : Search → (Spot → Bool) → Type 0
-Agrees w pass = (p : Spot) → GoodSpot p → passesOne w (side p) (three (spotWords p)) ≡ pass p
+Agrees w pass = (p : Spot) → GoodSpot p → passesOne w (side p) (keyIn (spotWords p)) ≡ pass p
 
 both : (b c e : Bool) → cond b true (cond c e false) ≡ b || (c && e)
 both true c e = refl
@@ -88,10 +91,10 @@ both false false e = refl
 
 module _ (w : Search) (pass : Spot → Bool) (agrees : Agrees w pass) where
   over-same : (r : Row) → Narrow r → (ks qs : List ℕ)
-      → goesOver w (headWord r) (three ((spotWords (r .spot) ++ ks) ++ qs)) ≡ over (w .depth) pass r
+      → goesOver w (headIn (headWord r)) (keyIn ((spotWords (r .spot) ++ ks) ++ qs)) ≡ over (w .depth) pass r
   unfolding goesOver
   over-same r h ks qs =
-      rw (depth-in r h, side-in r h, three-here (r .spot) ks qs, agrees (r .spot) (h .spot))
+      rw (depth-in r h, side-in r h, key-here (r .spot) ks qs, agrees (r .spot) (h .spot))
       (both (ltb (w .depth) (r .depth)) (eqb (r .depth) (w .depth)) (pass (r .spot)))
 
   pub finds : (rs : List Row) → AllNarrow rs → (qs : List ℕ) (s : Position)
@@ -100,7 +103,7 @@ module _ (w : Search) (pass : Spot → Bool) (agrees : Agrees w pass) where
   finds [] h qs s = refl
   finds (r ∷ rs) h qs s = go (over (w .depth) pass r) refl (finds rs (h .1) qs)
     where
-      there : over (w .depth) pass r ≡ goesOver w (headWord r) (three (keysOf (r ∷ rs) ++ qs))
+      there : over (w .depth) pass r ≡ goesOver w (headIn (headWord r)) (keyIn (keysOf (r ∷ rs) ++ qs))
       there = sym (over-same r (h .0) (keysOf rs) qs)
 
       go : (b : Bool) → over (w .depth) pass r ≡ b
@@ -114,20 +117,24 @@ module _ (w : Search) (pass : Spot → Bool) (agrees : Agrees w pass) where
 
 -- The searches of an operation: a key, an element, the seat of a new element behind its predecessor or behind the head, the end of a block.
 
+-- the key of an element
+abbrev pub elementKey : ℕ → Key
+elementKey e = record { hi = e; lo = 0; len = 17 }
+
 abbrev pub wantKey : ℕ → List ℕ → Search
-wantKey n k = record { kind = 0; depth = n; hi = pack 8 k; lo = pack 8 (drop 8 k); len = length k }
+wantKey n k = record { aim = A.Key; depth = n; key = record { hi = pack 8 k; lo = pack 8 (drop 8 k); len = length k } }
 
 abbrev pub wantElement : ℕ → ℕ → Search
-wantElement n e = record { kind = 1; depth = n; hi = e; lo = 0; len = 17 }
+wantElement n e = record { aim = A.Element; depth = n; key = elementKey e }
 
 abbrev pub wantSeat : ℕ → ℕ → Search
-wantSeat n i = record { kind = 2; depth = n; hi = i; lo = 0; len = 17 }
+wantSeat n i = record { aim = A.Seat; depth = n; key = elementKey i }
 
 abbrev pub wantHead : ℕ → ℕ → Search
-wantHead n i = record { kind = 3; depth = n; hi = i; lo = 0; len = 17 }
+wantHead n i = record { aim = A.FirstSeat; depth = n; key = elementKey i }
 
 abbrev pub wantEnd : ℕ → Search
-wantEnd n = record { kind = 4; depth = n; hi = 0; lo = 0; len = 0 }
+wantEnd n = record { aim = A.End; depth = n; key = record { hi = 0; lo = 0; len = 0 } }
 
 two : (t : Turn) → eqb (turnNumber t) 2 ≡ elim t [ before ↦ false | equal ↦ false | beyond ↦ true ]
 two before = refl
@@ -166,7 +173,7 @@ module _ (n : ℕ) where
 
 -- Whether the row where the search stopped is the one that was looked for.
 abbrev pub Tells : Search → (Spot → Bool) → Type 0
-Tells w meant = (r : Row) → Narrow r → isSought w (headWord r) (three (spotWords (r .spot))) ≡ at (w .depth) meant r
+Tells w meant = (r : Row) → Narrow r → isSought w (headIn (headWord r)) (keyIn (spotWords (r .spot))) ≡ at (w .depth) meant r
 
 narrowed : (c b : Bool) → cond c b false ≡ c && b
 narrowed true b = refl
@@ -177,7 +184,7 @@ unfolding isSought
 key-tells n k v r h = rw (depth-in r h, side-in r h) (go (r .spot) (h .spot))
   where
     go : (p : Spot) → GoodSpot p
-        → cond (eqb (r .depth) n) (cond (eqb (side p) 0) (eqb (turnNumber (turn (wantKey n k) (three (spotWords p)))) 1) false) false
+        → cond (eqb (r .depth) n) (cond (eqb (side p) 0) (eqb (turnNumber (turn (wantKey n k .key) (keyIn (spotWords p)))) 1) false) false
         ≡ eqb (r .depth) n && isKey k p
     go (inMap j) g =
         narrowed (eqb (r .depth) n) _ ∙ ap (eqb (r .depth) n &&_) (ap (λ t. eqb (turnNumber t) 1) (words-order k j v g) ∙ one (order k j))
@@ -187,7 +194,7 @@ pub element-tells : (n e : ℕ) → Tells (wantElement n e) (isId e)
 unfolding isSought
 element-tells n e r h = rw (depth-in r h, side-in r h) (go (r .spot))
   where
-    go : (p : Spot) → cond (eqb (r .depth) n) (cond (eqb (side p) 0) false (eqb e (three (spotWords p) .hi))) false
+    go : (p : Spot) → cond (eqb (r .depth) n) (cond (eqb (side p) 0) false (eqb e (keyIn (spotWords p) .hi))) false
         ≡ eqb (r .depth) n && isId e p
     go (inMap j) = narrowed (eqb (r .depth) n) false
     go (inList i) = narrowed (eqb (r .depth) n) (eqb e i)

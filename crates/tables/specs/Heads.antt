@@ -18,6 +18,10 @@ headIn h = record {
   values = valuesAt h;
 }
 
+-- the key that words begin with
+abbrev pub keyIn : List ℕ → Key
+keyIn ks = record { hi = getD ks 0 0; lo = getD ks 1 0; len = getD ks 2 0 }
+
 -- the key of row n
 abbrev pub keyAt : List ℕ → ℕ → Key
 keyAt keys n = record { hi = getD keys (3 * n) 0; lo = getD keys (3 * n + 1) 0; len = getD keys (3 * n + 2) 0 }

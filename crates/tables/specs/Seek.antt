@@ -8,51 +8,50 @@ use lib.Dec.{ltb, eqb}
 use lib.ListN.{length, getD, take, drop}
 use Rattle.meaning.specs.Places.{Turn, before, equal, beyond, order}
 use Rattle.readers.specs.Reads.{either}
-use Rattle.tables.specs.Words.{depthIn, sideIn, marksAt, valuesAt}
+use Rattle.readers.specs.Hex.{wordsIn}
+use Rattle.readers.specs.declared.Key.{Key}
+use Rattle.tables.specs.Words.{marksAt, valuesAt}
+use Rattle.tables.specs.Heads.{headIn, keyIn, keyAt}
+use Rattle.tables.specs.declared.Head.{Head}
+use Rattle.tables.specs.declared.Aim.{Aim}
+use Rattle.tables.specs.declared.Aim.the-variants as A
 use Rattle.tables.specs.declared.Position.{Position}
 use Rattle.tables.specs.declared.Search.{Search}
 
--- a key's three words, or an element's id and two more
-pub record Three : Type 0 where
-  pub hi : ℕ
-  pub lo : ℕ
-  pub len : ℕ
-
-abbrev pub three : List ℕ → Three
-three ks = record { hi = getD ks 0 0; lo = getD ks 1 0; len = getD ks 2 0 }
-
--- the words of row n
-abbrev pub threeAt : List ℕ → ℕ → Three
-threeAt keys n = record { hi = getD keys (3 * n) 0; lo = getD keys (3 * n + 1) 0; len = getD keys (3 * n + 2) 0 }
-
 -- what is looked for, beside the key k
-abbrev pub turn : Search → Three → Turn
-turn w k = order (w .hi ∷ w .lo ∷ w .len ∷ []) (k .hi ∷ k .lo ∷ k .len ∷ [])
+abbrev pub turn : Key → Key → Turn
+turn w k = order (wordsIn w) (wordsIn k)
 
 abbrev pub turnNumber : Turn → ℕ
 turnNumber before = 0
 turnNumber equal = 1
 turnNumber beyond = 2
 
--- of the rows of the depth that is looked at, those that are gone over: by kind, under a map (side 0) or a list
-unfoldable pub passesOne : Search → ℕ → Three → Bool
-passesOne w s k =
-    cond (eqb (w .kind) 0) (cond (eqb s 0) (eqb (turnNumber (turn w k)) 2) false)
-    (cond (eqb (w .kind) 1) (cond (eqb s 0) true (not (eqb (w .hi) (k .hi))))
-    (cond (eqb (w .kind) 2) (cond (eqb s 0) false (ltb (w .hi) (k .hi)))
-    (cond (eqb (w .kind) 3) (cond (eqb s 0) true (ltb (w .hi) (k .hi))) false)))
+-- Of the rows of the depth that is looked at, those that are gone over, by what is looked for: under a map (side 0) or a list.
+abbrev pub passing : Aim → Key → ℕ → Key → Bool
+passing A.Key w s k = cond (eqb s 0) (eqb (turnNumber (turn w k)) 2) false
+passing A.Element w s k = cond (eqb s 0) true (not (eqb (w .hi) (k .hi)))
+passing A.Seat w s k = cond (eqb s 0) false (ltb (w .hi) (k .hi))
+passing A.FirstSeat w s k = cond (eqb s 0) true (ltb (w .hi) (k .hi))
+passing A.End w s k = false
+
+unfoldable pub passesOne : Search → ℕ → Key → Bool
+passesOne w s k = passing (w .aim) (w .key) s k
 
 -- deeper rows hang under one that was gone over
-unfoldable pub goesOver : Search → ℕ → Three → Bool
-goesOver w h k = cond (ltb (w .depth) (depthIn h)) true (cond (eqb (depthIn h) (w .depth)) (passesOne w (sideIn h) k) false)
+unfoldable pub goesOver : Search → Head → Key → Bool
+goesOver w h k = cond (ltb (w .depth) (h .depth)) true (cond (eqb (h .depth) (w .depth)) (passesOne w (h .side) k) false)
 
 -- the row that is looked for: a key, or an element
-unfoldable pub isSought : Search → ℕ → Three → Bool
-isSought w h k =
-    cond (eqb (depthIn h) (w .depth))
-    (cond (eqb (w .kind) 0) (cond (eqb (sideIn h) 0) (eqb (turnNumber (turn w k)) 1) false)
-    (cond (eqb (w .kind) 1) (cond (eqb (sideIn h) 0) false (eqb (w .hi) (k .hi))) false))
-    false
+abbrev pub meant : Aim → Key → ℕ → Key → Bool
+meant A.Key w s k = cond (eqb s 0) (eqb (turnNumber (turn w k)) 1) false
+meant A.Element w s k = cond (eqb s 0) false (eqb (w .hi) (k .hi))
+meant A.Seat w s k = false
+meant A.FirstSeat w s k = false
+meant A.End w s k = false
+
+unfoldable pub isSought : Search → Head → Key → Bool
+isSought w h k = cond (eqb (h .depth) (w .depth)) (meant (w .aim) (w .key) (h .side) k) false
 
 -- one row further
 abbrev pub further : Position → ℕ → Position
@@ -71,7 +70,7 @@ Passes heads s r = Few s → r ≡ further s (getD heads (s .row) 0)
 -- where the search through these heads and keys stops, which begin at s
 unfoldable pub seekWords : Search → List ℕ → List ℕ → Position → Position
 seekWords w [] ks s = s
-seekWords w (h ∷ hs) ks s = elim (goesOver w h (three ks)) [ true ↦ seekWords w hs (drop 3 ks) (further s h) | false ↦ s ]
+seekWords w (h ∷ hs) ks s = elim (goesOver w (headIn h) (keyIn ks)) [ true ↦ seekWords w hs (drop 3 ks) (further s h) | false ↦ s ]
 
 -- there are so many rows, and the search begins at one of them or behind the last; no sum of counts is too large
 pub record Searches (heads keys : List ℕ) (rows : ℕ) (s : Position) : Type 0 where
@@ -89,3 +88,13 @@ holdsIf b P = either b P (P → ⊥)
 -- in tables with this many rows
 abbrev pub sought : Search → List ℕ → List ℕ → ℕ → Position → Position
 sought w heads keys rows s = seekWords w (drop (s .row) (take rows heads)) (drop (3 * s .row) keys) s
+
+-- the words of a key, by older names
+abbrev pub Three : Type 0
+Three = Key
+
+abbrev pub three : List ℕ → Key
+three = keyIn
+
+abbrev pub threeAt : List ℕ → ℕ → Key
+threeAt = keyAt

@@ -12,8 +12,9 @@ use Rattle.meaning.specs.Load.{marksIn, valuesIn}
 use Rattle.meaning.specs.Sheet.{Spot, Row}
 use Rattle.rows.specs.Blocks.{passed, over, at}
 use Rattle.tables.specs.Words.{headWord, spotWords, headsOf, keysOf}
-use Rattle.tables.specs.Seek.{three, threeAt, isSought, Searches, further, Passes, sought}
-use Rattle.tables.specs.Finds.{AllNarrow, nextRow, further-same, after, Agrees, Tells, three-here}
+use Rattle.tables.specs.Heads.{headIn, keyIn, keyAt}
+use Rattle.tables.specs.Seek.{isSought, Searches, further, Passes, sought}
+use Rattle.tables.specs.Finds.{AllNarrow, nextRow, further-same, after, Agrees, Tells, key-here}
 use Rattle.tables.specs.Standing.{first, behind, after-more, heads-length, keys-from, found}
 use Rattle.tables.specs.Holding.{Holds, four, begins}
 use Rattle.tables.specs.Parts.{at-behind, holds-narrow, heads-long, keys-long, heads-parts, all-narrow-left, all-narrow-right}
@@ -68,8 +69,8 @@ module _ (h k m v : List ℕ) (c : Counts) (A B : List Row) (H : Holds (four h k
       ∙ found A B _ _ w pass g (all-narrow-right A B (holds-narrow (four h k m v) c (A ++ B) H)))
 
 -- the words of a row
-three-drop : (k : List ℕ) (n : ℕ) → threeAt k n ≡ three (drop (3 * n) k)
-three-drop k n =
+key-drop : (k : List ℕ) (n : ℕ) → keyAt k n ≡ keyIn (drop (3 * n) k)
+key-drop k n =
     let e : 3 * n ≡ 3 * n + 0 = omega arith in
     let a : getD k (3 * n) 0 ≡ getD (drop (3 * n) k) 0 0 = ap (λ i. getD k i 0) e ∙ sym (getD-drop (3 * n) k 0 0) in
     rw (a, getD-drop (3 * n) k 1 0, getD-drop (3 * n) k 2 0)
@@ -80,18 +81,18 @@ module _ (h k m v : List ℕ) (c : Counts) (A R : List Row) (r : Row) (H : Holds
       ap (λ l. getD l (length A) 0) (H .heads ∙ heads-parts A r R _)
       ∙ getD-at (headsOf A) (headWord r) _ 0 (length A) (heads-length A)
 
-  pub key-at : threeAt k (length A) ≡ three (spotWords (r .spot))
+  pub key-at : keyAt k (length A) ≡ keyIn (spotWords (r .spot))
   unfolding keysOf
   key-at =
-      three-drop k (length A)
-      ∙ (ap (λ l. three (drop (3 * length A) l)) (H .keys) ∙ (ap three (keys-from A (r ∷ R) [] _) ∙ three-here (r .spot) (keysOf R) _))
+      key-drop k (length A)
+      ∙ (ap (λ l. keyIn (drop (3 * length A) l)) (H .keys) ∙ (ap keyIn (keys-from A (r ∷ R) [] _) ∙ key-here (r .spot) (keysOf R) _))
 
   -- it is told
   pub wanted-at : (w : Search) (meant : Spot → Bool) → Tells w meant
-      → isSought w (getD h (length A) 0) (threeAt k (length A)) ≡ at (w .depth) meant r
+      → isSought w (headIn (getD h (length A) 0)) (keyAt k (length A)) ≡ at (w .depth) meant r
   unfolding AllNarrow
   wanted-at w meant t =
-      ap₂ (isSought w) head-at key-at
+      ap₂ (isSought w) (ap headIn head-at) key-at
       ∙ t r (all-narrow-right A (r ∷ R) (holds-narrow (four h k m v) c (A ++ r ∷ R) H) .0)
 
   -- the place behind it
@@ -120,6 +121,6 @@ module _ (h k : List ℕ) (rows here : ℕ) (w : Search) where
   knows-out n m v c A [] meant H q l t = refl
   knows-out n m v c A (r ∷ R) meant H q l t = absurd (n m v c A R r H l)
 
-  pub knows-row : here < rows → Knows h k rows here w (isSought w (getD h here 0) (threeAt k here))
+  pub knows-row : here < rows → Knows h k rows here w (isSought w (headIn (getD h here 0)) (keyAt k here))
   knows-row e m v c A [] meant H q l t = absurd (omega (arith, H .rows-are, length-append A []))
   knows-row e m v c A (r ∷ R) meant H q l t = rw l (wanted-at h k m v c A R r H w meant t)

@@ -2,11 +2,11 @@
 -- Assumes nothing.
 use Prim.Native.Nat.{ℕ, _≤_, _<_}
 use native.Mathlib.Omega.{arith}
-use mathlib.Core.Path.{_≡_, subst}
+use mathlib.Core.Path.{_≡_, sym, ap, subst, _∙_}
 use mathlib.Core.Bool.{Bool, cond, not}
-use mathlib.Core.List.{List, [], _∷_}
+use mathlib.Core.List.{List}
 use lib.Dec.{ltb}
-use lib.ListN.{length, drop}
+use lib.ListN.{length, drop, getD}
 use borrow.Author.Tests.{lt-ltb, le-ltb}
 use Rattle.meaning.specs.Valid.{ValidKey}
 use Rattle.meaning.specs.Sheet.{Spot, inMap, inList}
@@ -14,19 +14,22 @@ use Rattle.rows.specs.Blocks.{keyBelow, isKey, isId}
 use Rattle.readers.specs.Words.{pack}
 use Rattle.tables.specs.Words.{spotWords}
 use Rattle.tables.specs.Finds.{GoodSpot, Agrees, Tells, wantKey, wantElement, key-agrees, element-agrees, key-tells, element-tells}
+use Rattle.readers.specs.Hex.{wordsIn}
+use Rattle.readers.specs.declared.Key.{Key}
+use Rattle.tables.specs.declared.Aim.the-variants as A
 use Rattle.tables.specs.declared.Search.{Search}
 
-unfoldable pub searchOf : ℕ → ℕ → ℕ → ℕ → Search
-searchOf n hi lo len = record { kind = cond (ltb 16 len) 1 0; depth = n; hi = hi; lo = lo; len = len }
+unfoldable pub searchOf : ℕ → Key → Search
+searchOf n k = record { aim = cond (ltb 16 (k .len)) A.Element A.Key; depth = n; key = k }
 
-module _ (n hi lo len : ℕ) where
-  pub want-key : len ≤ 16 → _≡_ {A = Search} (record { kind = 0; depth = n; hi = hi; lo = lo; len = len }) (searchOf n hi lo len)
+module _ (n : ℕ) (k : Key) where
+  pub want-key : k .len ≤ 16 → _≡_ {A = Search} (record { aim = A.Key; depth = n; key = k }) (searchOf n k)
   unfolding searchOf
-  want-key h = rw (le-ltb 16 len h)
+  want-key h = rw (le-ltb 16 (k .len) h)
 
-  pub want-element : 16 < len → _≡_ {A = Search} (record { kind = 1; depth = n; hi = hi; lo = lo; len = len }) (searchOf n hi lo len)
+  pub want-element : 16 < k .len → _≡_ {A = Search} (record { aim = A.Element; depth = n; key = k }) (searchOf n k)
   unfolding searchOf
-  want-element h = rw (lt-ltb 16 len h)
+  want-element h = rw (lt-ltb 16 (k .len) h)
 
 -- by the words of a spot: which rows of the depth it goes over, and which it is for
 
@@ -38,25 +41,25 @@ abbrev pub meantOf : Spot → Spot → Bool
 meantOf (inMap k) = isKey k
 meantOf (inList e) = isId e
 
-module _ (n hi lo len : ℕ) where
-  key-want : (k : List ℕ) → hi ∷ lo ∷ len ∷ [] ≡ spotWords (inMap k) → ValidKey k → wantKey n k ≡ searchOf n hi lo len
+same-key : (x : Key) (hi lo len : ℕ) → x .hi ≡ hi → x .lo ≡ lo → x .len ≡ len
+    → _≡_ {A = Key} (record { hi = hi; lo = lo; len = len }) x
+same-key x hi lo len a b c = λ i. record { hi = sym a i; lo = sym b i; len = sym c i }
+
+module _ (n : ℕ) (x : Key) where
+  key-want : (k : List ℕ) → wordsIn x ≡ spotWords (inMap k) → ValidKey k → wantKey n k ≡ searchOf n x
   key-want k e v =
-      let x : hi ≡ pack 8 k = cc in
-      let y : lo ≡ pack 8 (drop 8 k) = cc in
-      let z : len ≡ length k = cc in
-      rw (x, y, z) (want-key n (pack 8 k) (pack 8 (drop 8 k)) (length k) (v .short))
+      let short : x .len ≤ 16 = omega (arith, v .short, ap (λ w. getD w 2 0) e) in
+      ap (λ y. record { aim = A.Key; depth = n; key = y }) (same-key x _ _ _ (cc) (cc) (cc)) ∙ want-key n x short
 
-  element-want : (e : ℕ) → hi ∷ lo ∷ len ∷ [] ≡ spotWords (inList e) → wantElement n e ≡ searchOf n hi lo len
+  element-want : (e : ℕ) → wordsIn x ≡ spotWords (inList e) → wantElement n e ≡ searchOf n x
   element-want e q =
-      let x : hi ≡ e = cc in
-      let y : lo ≡ 0 = cc in
-      let z : len ≡ 17 = cc in
-      rw (x, y, z) (want-element n e 0 17 (omega arith))
+      let long : 16 < x .len = omega (arith, ap (λ w. getD w 2 0) q) in
+      ap (λ y. record { aim = A.Element; depth = n; key = y }) (same-key x _ _ _ (cc) (cc) (cc)) ∙ want-element n x long
 
-  pub spot-agrees : (p : Spot) → hi ∷ lo ∷ len ∷ [] ≡ spotWords p → GoodSpot p → Agrees (searchOf n hi lo len) (passOf p)
+  pub spot-agrees : (p : Spot) → wordsIn x ≡ spotWords p → GoodSpot p → Agrees (searchOf n x) (passOf p)
   spot-agrees (inMap k) e g = subst (λ w. Agrees w (keyBelow k)) (key-want k e g) (key-agrees n k g)
   spot-agrees (inList i) e g = subst (λ w. Agrees w (λ p. not (isId i p))) (element-want i e) (element-agrees n i)
 
-  pub spot-tells : (p : Spot) → hi ∷ lo ∷ len ∷ [] ≡ spotWords p → GoodSpot p → Tells (searchOf n hi lo len) (meantOf p)
+  pub spot-tells : (p : Spot) → wordsIn x ≡ spotWords p → GoodSpot p → Tells (searchOf n x) (meantOf p)
   spot-tells (inMap k) e g = subst (λ w. Tells w (isKey k)) (key-want k e g) (key-tells n k g)
   spot-tells (inList i) e g = subst (λ w. Tells w (isId i)) (element-want i e) (element-tells n i)

@@ -2,6 +2,7 @@
 // Rows stand in the sheet's order. `heads` has a word a row: depth, side, flags, and how many marks and values the row has; `keys`
 // three words a row; `marks` the ids that mark the rows, row after row; `values` six words a value, row after row.
 use readers::Key;
+use readers::LONGEST;
 ghost use mathlib.Core.Path.{_≡_};
 ghost use Prim.Native.Nat.{_+_, _*_, _-_, _≤_, _<_};
 ghost use lib.ListN.{length, getD};
@@ -55,14 +56,20 @@ pub struct Counts {
     pub values: usize,
 }
 
-// What is looked for among the rows of a depth: a key by its three words (kind 0), an element by its id (1), the seat of a new element
-// (2; from the head 3), or the end of what hangs there (4).
+// What is looked for: a key, an element, the seat of a new element behind its predecessor or behind the head, or the end of what hangs there.
+pub enum Aim {
+    Key,
+    Element,
+    Seat,
+    FirstSeat,
+    End,
+}
+
+// What is looked for among the rows of a depth, with its key.
 pub struct Search {
-    pub kind: u64,
+    pub aim: Aim,
     pub depth: u64,
-    pub hi: u64,
-    pub lo: u64,
-    pub len: u64,
+    pub key: Key,
 }
 
 // Whether so many rows, marks and values have room in the tables.
@@ -140,120 +147,105 @@ pub fn next_row(heads: &[u64], s: Position) -> Position
     }
 }
 
-// The search for a key or an element among the rows of depth n, by its three words: in an element's third stands 17.
-pub fn search_of(n: u64, hi: u64, lo: u64, len: u64) -> Search
-    ensures { λ r. ⌜ r ≡ searchOf n hi lo len ⌝ }
+// The search for a key or an element among the rows of depth n.
+pub fn search_of(n: u64, k: Key) -> Search
+    ensures { λ r. ⌜ r ≡ searchOf n k ⌝ }
 {
-    if len > 16 {
+    if k.len > LONGEST {
         return Search {
-            kind: 1,
+            aim: Aim::Element,
             depth: n,
-            hi,
-            lo,
-            len,
+            key: k,
         };
     }
     Search {
-        kind: 0,
+        aim: Aim::Key,
         depth: n,
-        hi,
-        lo,
-        len,
+        key: k,
     }
 }
 
 // The key that is looked for, beside a row's: before it (0), the same (1), or beyond it (2).
-fn turn_of(w: Search, hi: u64, lo: u64, len: u64) -> u64
-    ensures { λ r. ⌜ r ≡ turnNumber (turn w (record { hi = hi; lo = lo; len = len })) ⌝ }
+fn turn_of(w: Key, k: Key) -> u64
+    ensures { λ r. ⌜ r ≡ turnNumber (turn w k) ⌝ }
 {
-    if w.hi < hi {
+    if w.hi < k.hi {
         return 0;
     }
-    if hi < w.hi {
+    if k.hi < w.hi {
         return 2;
     }
-    if w.lo < lo {
+    if w.lo < k.lo {
         return 0;
     }
-    if lo < w.lo {
+    if k.lo < w.lo {
         return 2;
     }
-    if w.len < len {
+    if w.len < k.len {
         return 0;
     }
-    if len < w.len {
+    if k.len < w.len {
         return 2;
     }
     1
 }
 
 // Of the rows of the depth that is looked at, those that are gone over.
-fn passes_one(w: Search, side: u64, hi: u64, lo: u64, len: u64) -> bool
-    ensures { λ r. ⌜ r ≡ passesOne w side (record { hi = hi; lo = lo; len = len }) ⌝ }
+fn passes_one(w: Search, side: u64, k: Key) -> bool
+    ensures { λ r. ⌜ r ≡ passesOne w side k ⌝ }
 {
-    let kind = w.kind;
-    if kind == 0 {
-        if side == 0 {
-            return turn_of(w, hi, lo, len) == 2;
+    let aim = w.aim;
+    let key = w.key;
+    match aim {
+        Aim::Key => {
+            if side == MAP {
+                turn_of(key, k) == 2
+            } else {
+                false
+            }
         }
-        return false;
+        Aim::Element => { if side == MAP { true } else { key.hi != k.hi } }
+        Aim::Seat => { if side == MAP { false } else { key.hi < k.hi } }
+        Aim::FirstSeat => { if side == MAP { true } else { key.hi < k.hi } }
+        Aim::End => false,
     }
-    if kind == 1 {
-        if side == 0 {
-            return true;
-        }
-        return w.hi != hi;
-    }
-    if kind == 2 {
-        if side == 0 {
-            return false;
-        }
-        return w.hi < hi;
-    }
-    if kind == 3 {
-        if side == 0 {
-            return true;
-        }
-        return w.hi < hi;
-    }
-    false
 }
 
-fn goes_over(w: Search, h: u64, hi: u64, lo: u64, len: u64) -> bool
-    ensures { λ r. ⌜ r ≡ goesOver w h (record { hi = hi; lo = lo; len = len }) ⌝ }
+fn goes_over(w: Search, h: Head, k: Key) -> bool
+    ensures { λ r. ⌜ r ≡ goesOver w h k ⌝ }
 {
-    let d = h % 16;
+    let d = h.depth;
     if w.depth < d {
         return true;
     }
     if d == w.depth {
-        return passes_one(w, h / 16 % 2, hi, lo, len);
+        return passes_one(w, h.side, k);
     }
     false
 }
 
 // Whether a row is the one that is looked for.
-pub fn is_sought(w: Search, h: u64, hi: u64, lo: u64, len: u64) -> bool
-    ensures { λ r. ⌜ r ≡ isSought w h (record { hi = hi; lo = lo; len = len }) ⌝ }
+pub fn is_sought(w: Search, h: Head, k: Key) -> bool
+    ensures { λ r. ⌜ r ≡ isSought w h k ⌝ }
 {
-    if h % 16 != w.depth {
+    if h.depth != w.depth {
         return false;
     }
-    let kind = w.kind;
-    let side = h / 16 % 2;
-    if kind == 0 {
-        if side == 0 {
-            return turn_of(w, hi, lo, len) == 1;
+    let aim = w.aim;
+    let key = w.key;
+    match aim {
+        Aim::Key => {
+            if h.side == MAP {
+                turn_of(key, k) == 1
+            } else {
+                false
+            }
         }
-        return false;
+        Aim::Element => { if h.side == MAP { false } else { key.hi == k.hi } }
+        Aim::Seat => false,
+        Aim::FirstSeat => false,
+        Aim::End => false,
     }
-    if kind == 1 {
-        if side == 0 {
-            return false;
-        }
-        return w.hi == hi;
-    }
-    false
 }
 
 // Where the search from a place on stops: before the first row that isn't gone over.
@@ -264,14 +256,19 @@ pub fn seek(heads: &[u64], keys: &[u64], rows: usize, from: Position, w: Search)
     let mut at = from;
     while at.row < rows {
         let row = at.row;
-        let h = heads[row];
-        if !goes_over(w, h, keys[3 * row], keys[3 * row + 1], keys[3 * row + 2]) {
+        let h = head_in(heads[row]);
+        let k = Key {
+            hi: keys[3 * row],
+            lo: keys[3 * row + 1],
+            len: keys[3 * row + 2],
+        };
+        if !goes_over(w, h, k) {
             return at;
         }
         at = Position {
             row: row + 1,
-            mark: at.mark + (h / 128 % 2048) as usize,
-            value: at.value + (h / 262144 % 512) as usize,
+            mark: at.mark + h.marks,
+            value: at.value + h.values,
         };
     }
     at
@@ -328,11 +325,5 @@ pub fn is_at(heads: &[u64], keys: &[u64], rows: usize, at: usize, w: Search) -> 
     if 3 * at + 2 >= keys.len() {
         return false;
     }
-    is_sought(
-        w,
-        heads[at],
-        keys[3 * at],
-        keys[3 * at + 1],
-        keys[3 * at + 2],
-    )
+    is_sought(w, head_at(heads, at), key_at(keys, at))
 }

@@ -1,3 +1,4 @@
+-- `tables::goes_over` meets its contract. Assumes nothing.
 use borrow.Author.Tests.{lt-ltb, le-ltb, eq-eqb, ne-eqb}
 use Rattle.tables.specs.Seek.{goesOver}
 use borrow.Author.Needs.{needs}
@@ -11,8 +12,7 @@ returns c = rw (lt-ltb _ _ (c .if1 .taken))
 returns-2 : tie.Need-returns-2
 unfolding goesOver
 returns-2 c =
-    let at-if1 = c .before .before .before in
-    rw (le-ltb _ _ (at-if1 .if1 .left), eq-eqb _ _ (c .before .if2 .taken)) (c .passes-one .ensures)
+    rw (le-ltb _ _ (c .before .before .before .if1 .left), eq-eqb _ _ (c .before .if2 .taken)) (c .passes-one .ensures)
 
 returns-3 : tie.Need-returns-3
 unfolding goesOver
