@@ -28,7 +28,7 @@ use Rattle.act.specs.Acting.{blockAt, marksBy, withMarks, Spare, Does, Finishes
 use Rattle.act.specs.declared.Act.{Act}
 use Rattle.act.proofs.Gaps.{marks-all, marks-most, mark-further, mark-next, leaves-still}
 use Rattle.descend.specs.Reach.{changing}
-use Rattle.descend.specs.Going.{words-long, words-none, inserts-only, goes-on, third-word, Goes, goes}
+use Rattle.descend.specs.Going.{threeKey, words-long, words-none, inserts-only, goes-on, third-word, Goes, goes}
 use Rattle.words.specs.Gap.{Gap, Leaves}
 use Rattle.tables.specs.Seek.{Passes}
 use Rattle.tables.specs.Stands.{passes}
@@ -117,7 +117,7 @@ module _ (o : Act) (n : ℕ) (ks : List ℕ) (from : Position) (c : Counts) (T :
 module _ (o : Act) (n : ℕ) (ks : List ℕ) (from : Position) (c : Counts) (h k m v : List ℕ) (hi lo len left : ℕ)
     (long : 3 ≤ length ks) (here : insertsHere (length ks) (o .deed) ≡ false) (first : hi ≡ getD ks 0 0) (second : lo ≡ getD ks 1 0)
     (third : len ≡ getD ks 2 0) (behind-it : left + 3 ≡ length ks) (shallow : n ≤ 8)
-    (h₁ k₁ : List ℕ) (x : Child) (L : Leads (searchOf n hi lo len) (mayMake len left (o .deed)) c from h k h₁ k₁ x) where
+    (h₁ k₁ : List ℕ) (x : Child) (L : Leads (searchOf n (threeKey hi lo len)) (mayMake len left (o .deed)) c from h k h₁ k₁ x) where
   going : (w : Way) → ks ≡ wayWords w → o .deed ≡ deedOf w → ValidWay w → Goes (o .id) (o .deps .at) n hi lo len left (o .deed) w
   going w e d v = goes (o .id) (o .deps .at) n hi lo len left ks (o .deed) w e d v long here first second third behind-it
 

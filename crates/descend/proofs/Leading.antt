@@ -12,6 +12,7 @@ use Rattle.theorems.specs.Accepting.{marks-append, values-append}
 use Rattle.rows.specs.Blocks.{passed, rest, newRow, over, at}
 use Rattle.rows.specs.Counting.{Fresh}
 use Rattle.rows.specs.Balanced.{passed-rest, passed-rest-behind, fresh-parts}
+use Rattle.readers.specs.Hex.{wordsIn}
 use Rattle.tables.specs.Finds.{Agrees, Tells}
 use Rattle.tables.specs.Standing.{behind}
 use Rattle.tables.specs.Words.{Tables}
@@ -64,7 +65,7 @@ module _ (h k : List ℕ) (c : Counts) (from t : Position) (w : Search) (F : Fin
       }
 
   pub lead-new : (make y : Bool) (e : Counts) (h′ k′ : List ℕ) → Knows h k (c .rows) (t .row) w y → y ≡ false → make ≡ true
-      → Opens (t .row) (w .depth) 0 (w .hi ∷ w .lo ∷ w .len ∷ []) c h k e h′ k′
+      → Opens (t .row) (w .depth) 0 (wordsIn (w .key)) c h k e h′ k′
       → Leads w make c from h k h′ k′ (record { there = true; at = t; counts = e })
   unfolding Opens
   lead-new make y e h′ k′ K z s O m v A B pass meant p H b g q mk =

@@ -15,6 +15,7 @@ use Rattle.rows.specs.Within.{underRows, ofList, enterRow}
 use Rattle.readers.specs.Reads.{either}
 use Rattle.message.specs.Means.{wayWords, deedOf, deedWords}
 use Rattle.words.specs.Gap.{Gap, Leaves}
+use Rattle.readers.specs.Hex.{wordsIn}
 use Rattle.tables.specs.Words.{side, spotWords, Tables}
 use Rattle.tables.specs.Finds.{GoodSpot, Agrees, Tells}
 use Rattle.tables.specs.Standing.{behind}
@@ -31,7 +32,7 @@ use Rattle.descend.specs.declared.Child.{Child}
 
 -- it can be made
 pub record Making (w : Search) (p : Spot) (c : Counts) : Type 0 where
-  pub words : spotWords p ≡ w .hi ∷ w .lo ∷ w .len ∷ []
+  pub words : spotWords p ≡ wordsIn (w .key)
   pub good : GoodSpot p
   pub under : 0 ≡ side p
   pub deep : w .depth ≤ 8

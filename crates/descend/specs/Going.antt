@@ -17,6 +17,7 @@ use Rattle.readers.specs.Words.{pack}
 use Rattle.message.specs.Means.{prevWords, wayWords, deedOf, deedWords}
 use Rattle.message.specs.declared.Deed.{Deed}
 use Rattle.tables.specs.Finds.{Agrees, Tells}
+use Rattle.readers.specs.declared.Key.{Key}
 use Rattle.tables.specs.Wants.{searchOf, passOf, meantOf, want-key, spot-agrees, spot-tells}
 use Rattle.tables.specs.declared.Counts.{Counts}
 use Rattle.deeds.specs.Deeds.{isDelete, isInsert, mayMake, insertsHere}
@@ -118,15 +119,19 @@ inserts-only (intoList j w) e P x =
     let g = words-long w (last-not w (deed-inserts _ _ e)) in
     absurd (true≢false (sym e ∙ long-not _ (deedOf w) (omega (arith, g))))
 
+-- a key by its three words
+abbrev pub threeKey : ℕ → ℕ → ℕ → Key
+threeKey hi lo len = record { hi = hi; lo = lo; len = len }
+
 -- The first key of a way w, of rows of depth n.
 pub record Goes (i : ℕ) (d : List ℕ) (n hi lo len left : ℕ) (deed : Deed) (w : Way) : Type 0 where
   pub next : Way
   pub pass : Spot → Bool
   pub meant : Spot → Bool
   pub spot : Spot
-  pub agrees : Agrees (searchOf n hi lo len) pass
-  pub tells : Tells (searchOf n hi lo len) meant
-  pub making : (c : Counts) → c .rows < 264 → n ≤ 8 → mayMake len left deed ≡ true → Making (searchOf n hi lo len) spot c
+  pub agrees : Agrees (searchOf n (threeKey hi lo len)) pass
+  pub tells : Tells (searchOf n (threeKey hi lo len)) meant
+  pub making : (c : Counts) → c .rows < 264 → n ≤ 8 → mayMake len left deed ≡ true → Making (searchOf n (threeKey hi lo len)) spot c
   pub change : (B : List Row) → underRows i d n w B ≡ changing n pass meant (mayMake len left deed) spot B (runBlock i d n next)
   pub words : wayWords w ≡ hi ∷ lo ∷ len ∷ wayWords next
   pub valid : ValidWay next
@@ -139,14 +144,14 @@ module _ (i : ℕ) (d : List ℕ) (n : ℕ) where
       → Goes i d n (pack 8 k) (pack 8 (drop 8 k)) (length k) (length (wayWords w)) (deedOf w) (intoMap k w)
   unfolding underRows atKeyRows wayWords deedOf deedWords steps
   goes-key k w vk vw =
-      let q = want-key n (pack 8 k) (pack 8 (drop 8 k)) (length k) (vk .short) in
+      let q = want-key n (threeKey (pack 8 k) (pack 8 (drop 8 k)) (length k)) (vk .short) in
       record {
         next = w;
         pass = passOf (inMap k);
         meant = meantOf (inMap k);
         spot = inMap k;
-        agrees = spot-agrees n _ _ _ (inMap k) refl vk;
-        tells = spot-tells n _ _ _ (inMap k) refl vk;
+        agrees = spot-agrees n _ (inMap k) refl vk;
+        tells = spot-tells n _ (inMap k) refl vk;
         making = λ c r nd m. subst (λ x. Making x (inMap k) c) q
             (record { words = refl; good = vk; under = refl; deep = nd; room = r });
         change = λ B. rw (make-key w (length k) (vk .short));
@@ -164,8 +169,8 @@ module _ (i : ℕ) (d : List ℕ) (n : ℕ) where
     pass = passOf (inList e);
     meant = meantOf (inList e);
     spot = inList e;
-    agrees = spot-agrees n e 0 17 (inList e) refl tt;
-    tells = spot-tells n e 0 17 (inList e) refl tt;
+    agrees = spot-agrees n (threeKey e 0 17) (inList e) refl tt;
+    tells = spot-tells n (threeKey e 0 17) (inList e) refl tt;
     making = λ c r nd m. absurd (true≢false (sym m));
     change = λ B. refl;
     words = refl;

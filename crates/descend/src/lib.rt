@@ -8,8 +8,11 @@ use deeds::inserts_here;
 use deeds::is_delete;
 use deeds::may_make;
 use message::Deed;
+use readers::Key;
+use readers::LONGEST;
 use steps::WithGap;
 use tables::Counts;
+use tables::MAP;
 use tables::Position;
 use tables::Search;
 use tables::next_row;
@@ -48,7 +51,8 @@ fn lead(
         };
     }
     if make {
-        let counts = steps::open_row(heads, keys, c, row, w.depth, 0, w.hi, w.lo, w.len);
+        let k = w.key;
+        let counts = steps::open_row(heads, keys, c, row, w.depth, MAP, k.hi, k.lo, k.len);
         return Child {
             there: true,
             at,
@@ -69,17 +73,15 @@ fn reach(
     c: Counts,
     from: Position,
     n: u64,
-    hi: u64,
-    lo: u64,
-    len: u64,
+    key: Key,
     left: usize,
     deed: Deed,
 ) -> Child
-    ensures { λ r. ⌜ Leads (searchOf n hi lo len) (mayMake len left deed) c from (now (heads .entry)) (now (keys .entry)) (now (heads .exit))
+    ensures { λ r. ⌜ Leads (searchOf n key) (mayMake (key .len) left deed) c from (now (heads .entry)) (now (keys .entry)) (now (heads .exit))
         (now (keys .exit)) r ⌝ }
 {
-    let w = search_of(n, hi, lo, len);
-    let make = may_make(len, left, deed);
+    let w = search_of(n, key);
+    let make = may_make(key.len, left, deed);
     lead(heads, keys, c, from, w, make)
 }
 
@@ -133,14 +135,16 @@ pub fn descend(
     if n > 8 {
         return WithGap { counts: c, gap };
     }
-    let hi = way[0];
-    let lo = way[1];
-    let len = way[2];
+    let key = Key {
+        hi: way[0],
+        lo: way[1],
+        len: way[2],
+    };
     let deed = o.deed;
     if inserts_here(left, deed) {
-        return put_element(heads, keys, marks, values, c, from, n, hi, len, o);
+        return put_element(heads, keys, marks, values, c, from, n, key.hi, key.len, o);
     }
-    let x = reach(heads, keys, c, from, n, hi, lo, len, left - 3, deed);
+    let x = reach(heads, keys, c, from, n, key, left - 3, deed);
     if !x.there {
         return WithGap { counts: c, gap };
     }
@@ -155,5 +159,14 @@ pub fn descend(
     let third = way[5];
     let p = next_row(heads, at);
     let e = descend(heads, keys, marks, values, counts, p, n + 1, o, &way[3..]);
-    enter(heads, marks, e.counts, at, o, third > 16, e.gap, n as usize)
+    enter(
+        heads,
+        marks,
+        e.counts,
+        at,
+        o,
+        third > LONGEST,
+        e.gap,
+        n as usize,
+    )
 }

@@ -25,15 +25,16 @@ use Rattle.forecast.specs.declared.Lost.{Lost}
 use Rattle.forecast.specs.declared.Sight.{Sight}
 use Rattle.forecast.specs.Goes.{Goes, RowGone, BlockGone}
 use Rattle.forecast.specs.Weighs.{Sees, missing, standing, Looks, SightGone}
+use Rattle.readers.specs.declared.Key.{Key}
 
 pub false-true : (b : Bool) → b ≡ false → b ≡ true → ⊥
 false-true b f t = let z : _≡_ {A = ℕ} 0 1 = ap (λ b. cond b 1 0) (sym f ∙ t) in omega arith
 
 -- nothing hangs there
-pub looks-none : (h k : List ℕ) (rows : ℕ) (from : Position) (n : ℕ) (parent-known : Bool) (hi lo len : ℕ) (s : Sight) → s .there ≡ false
-    → parent-known ≡ false → Looks h k rows from n parent-known hi lo len s
+pub looks-none : (h k : List ℕ) (rows : ℕ) (from : Position) (n : ℕ) (parent-known : Bool) (y : Key) (s : Sight) → s .there ≡ false
+    → parent-known ≡ false → Looks h k rows from n parent-known y s
 unfolding locate rest locateHere
-looks-none h k rows from n parent-known hi lo len s e z m v c A B pass meant H q f a t =
+looks-none h k rows from n parent-known y s e z m v c A B pass meant H q f a t =
     missing e (ap (λ b. locate n pass meant (cond b B [])) z)
 
 -- the first row that isn't passed over, if it is the one that is meant
@@ -50,12 +51,12 @@ sees-first rs n meant s F (r ∷ R) e f t = go (at n meant r) refl
         (ap (λ b. cond b (here (record { own = r; under = passed (deeper n) R })) nowhere) y)
     go false y = missing (t ∙ y) (ap (λ b. cond b (here (record { own = r; under = passed (deeper n) R })) nowhere) y)
 
-pub looks-found : (h k : List ℕ) (rows : ℕ) (from : Position) (n : ℕ) (parent-known : Bool) (hi lo len : ℕ) (w : Search) (s : Position) (b : Bool)
-    → parent-known ≡ true → w ≡ searchOf n hi lo len → FindsIn h k rows from w s → Knows h k rows (s .row) w b
-    → Looks h k rows from n parent-known hi lo len (record { at = s; there = b })
+pub looks-found : (h k : List ℕ) (rows : ℕ) (from : Position) (n : ℕ) (parent-known : Bool) (y : Key) (w : Search) (s : Position) (b : Bool)
+    → parent-known ≡ true → w ≡ searchOf n y → FindsIn h k rows from w s → Knows h k rows (s .row) w b
+    → Looks h k rows from n parent-known y (record { at = s; there = b })
 unfolding locate searchOf
-looks-found h k rows from n parent-known hi lo len w s b x e find know m v c A B pass meant H q f a t =
-    let w′ = searchOf n hi lo len in
+looks-found h k rows from n parent-known y w s b x e find know m v c A B pass meant H q f a t =
+    let w′ = searchOf n y in
     let o = over n pass in
     let F = A ++ passed o B in
     let a′ : Agrees w pass = subst (λ w. Agrees w pass) (sym e) a in

@@ -20,6 +20,8 @@ use Rattle.rows.specs.Within.{underChange, GoesOn, shallow-rest, change-within,
 use Rattle.message.specs.Means.{wayWords, prevWords}
 use Rattle.tables.specs.Words.{spotWords}
 use Rattle.tables.specs.Finds.{GoodSpot}
+use Rattle.readers.specs.Hex.{wordsIn}
+use Rattle.tables.specs.Heads.{keyIn}
 use Rattle.tables.specs.Wants.{passOf, meantOf, spot-agrees, spot-tells}
 use Rattle.tables.specs.Standing.{behind}
 use Rattle.tables.specs.Holding.{Holds, four}
@@ -147,7 +149,7 @@ module _ (h k m v : List ℕ) (rows : ℕ) (n : ℕ) (d : List ℕ) (deed : ℕ)
 module _ (h k m v : List ℕ) (rows : ℕ) (from : Position) (n : ℕ) (parent-known : Bool) (d : List ℕ) (deed : ℕ) (way : List ℕ) (s : Sight) (next : Position)
     (x : Weight) where
   step-weighed : 3 ≤ length way → (length way ≡ 3 → ⊥)
-      → Looks h k rows from n parent-known (getD way 0 0) (getD way 1 0) (getD way 2 0) s → Passes h (s .at) next
+      → Looks h k rows from n parent-known (keyIn way) s → Passes h (s .at) next
       → WayWeighed h k m v rows next (n + 1) (s .there) d deed (drop 3 way) x
       → WayWeighed h k m v rows from n parent-known d deed way
       (carried (marked x deed) (s .there) (eqb (getD way 2 0) 17) (covered d (getD way 0 0)) true)
@@ -156,14 +158,14 @@ module _ (h k m v : List ℕ) (rows : ℕ) (from : Position) (n : ℕ) (parent-k
     few-places =
         omega (
           arith,
-          carried-places U (s .there) (eqb len 17) (covered d hi) true,
+          carried-places U (s .there) (eqb (getD way 2 0) 17) (covered d (getD way 0 0)) true,
           marked-places x deed,
           under .few-places,
           length-drop 3 way,
         );
     few-marks = omega (
       arith,
-      carried-marks U (s .there) (eqb len 17) (covered d hi) true,
+      carried-marks U (s .there) (eqb (getD way 2 0) 17) (covered d (getD way 0 0)) true,
       marked-marks x deed,
       under .few-marks,
       length-drop 3 way,
@@ -171,37 +173,28 @@ module _ (h k m v : List ℕ) (rows : ℕ) (from : Position) (n : ℕ) (parent-k
     is = λ c A B w H q f e g ok N. all c A B w H q f e g ok N;
   }
     where
-      hi : ℕ
-      hi = getD way 0 0
-
-      lo : ℕ
-      lo = getD way 1 0
-
-      len : ℕ
-      len = getD way 2 0
-
       U : Weight
       U = marked x deed
 
       go : (c : Counts) (A B : List Row) (p : Spot) (w : Way) → Holds (four h k m v) c (A ++ B) → rows ≡ c .rows
-          → (parent-known ≡ true → from ≡ behind A) → hi ∷ lo ∷ len ∷ [] ≡ spotWords p → drop 3 way ≡ wayWords w → deed ≡ wayNumber w
+          → (parent-known ≡ true → from ≡ behind A) → wordsIn (keyIn way) ≡ spotWords p → drop 3 way ≡ wayWords w → deed ≡ wayNumber w
           → GoodSpot p → ValidWay w → n + suc (steps w) ≤ 9
           → Weighs (elementsFoundRows d n (into p w) (cond parent-known B [])) (underChange d n (into p w) (cond parent-known B []))
-          (carried U (s .there) (eqb len 17) (covered d hi) true)
+          (carried U (s .there) (eqb (getD way 2 0) 17) (covered d (getD way 0 0)) true)
       go c A B p w H q f e t g good ok N =
           let rs = cond parent-known B [] in
           let L = locateAt n p rs in
-          let S = look m v c A B (passOf p) (meantOf p) H q f (spot-agrees n hi lo len p e good) (spot-tells n hi lo len p e good) in
+          let S = look m v c A B (passOf p) (meantOf p) H q f (spot-agrees n (keyIn way) p e good) (spot-tells n (keyIn way) p e good) in
           let on = goes-on w (λ z. more (omega (arith, long, length-drop 3 way, ap length (t ∙ z)))) in
           let W = below h k m v rows n d deed (drop 3 way) s next x past under c (A ++ B) w L H q S t g ok N in
           let W′ = subst (λ us. Weighs (elementsFoundRows d (suc n) w (underOf L)) (underChange d (suc n) w us) x) (sym (or-new n p L)) W in
-          carry-into d n w rs U (s .there) true hi lo len p e good (sees-there (A ++ B) n s L S) (goes-makes w on)
+          carry-into d n w rs U (s .there) true (keyIn way) p e good (sees-there (A ++ B) n s L S) (goes-makes w on)
           (mark-is d n w (orNew n p L) (elementsFoundRows d (suc n) w (underOf L)) x deed on g W′)
 
       all : (c : Counts) (A B : List Row) (w : Way) → Holds (four h k m v) c (A ++ B) → rows ≡ c .rows
           → (parent-known ≡ true → from ≡ behind A) → way ≡ wayWords w → deed ≡ wayNumber w → ValidWay w → n + steps w ≤ 9
           → Weighs (elementsFoundRows d n w (cond parent-known B [])) (underChange d n w (cond parent-known B []))
-          (carried U (s .there) (eqb len 17) (covered d hi) true)
+          (carried U (s .there) (eqb (getD way 2 0) 17) (covered d (getD way 0 0)) true)
       all c A B (assign a) H q f e g ok N = absurd (omega (arith, long, ap length e))
       all c A B delete H q f e g ok N = absurd (omega (arith, long, ap length e))
       all c A B (insert p a) H q f e g ok N = absurd (more (ap length e ∙ prev-three p))
@@ -212,7 +205,7 @@ module _ (h k m v : List ℕ) (rows : ℕ) (from : Position) (n : ℕ) (parent-k
 
   -- the same as the code has it: the rest of the way is a part of it, and each step has its result
   pub part-weighed : (u y : Weight) (covers : Bool) → 3 ≤ length way → (length way ≡ 3 → ⊥)
-      → Looks h k rows from n parent-known (getD way 0 0) (getD way 1 0) (getD way 2 0) s → Passes h (s .at) next
+      → Looks h k rows from n parent-known (keyIn way) s → Passes h (s .at) next
       → WayWeighed h k m v rows next (n + 1) (s .there) d deed (take (length way - 3) (drop 3 way)) x
       → u ≡ marked x deed → covers ≡ covered d (getD way 0 0) → y ≡ carried u (s .there) (eqb (getD way 2 0) 17) covers true
       → WayWeighed h k m v rows from n parent-known d deed way y

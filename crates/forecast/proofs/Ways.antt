@@ -30,6 +30,8 @@ use Rattle.forecast.specs.Weighs.{Sees, missing, standing, Looks, orNew}
 use Rattle.forecast.specs.Weighs.{isPlain, wayNumber, Weighs, nothingWeighed, elementWeighed, carried}
 use Rattle.forecast.specs.Weighs.{PlaceWeighed, WayWeighed}
 use Rattle.forecast.proofs.Weights.{Ends, ends, and-false, map-carry, list-carry, carried-places, carried-marks}
+use Rattle.readers.specs.Hex.{wordsIn}
+use Rattle.readers.specs.declared.Key.{Key}
 
 -- A key and what follows it.
 
@@ -45,24 +47,24 @@ sees-there rs n s l (missing f x) = f ∙ sym (ap isLocated x)
 sees-there rs n s l (standing F r R y e b z x) = y ∙ sym (ap isLocated x)
 
 -- the third word tells
-third : (p : Spot) (hi lo len : ℕ) → hi ∷ lo ∷ len ∷ [] ≡ spotWords p → len ≡ getD (spotWords p) 2 0
-third p hi lo len e = ap (λ l. getD l 2 0) e
+third : (p : Spot) (y : Key) → wordsIn y ≡ spotWords p → (y .len) ≡ getD (spotWords p) 2 0
+third p y e = ap (λ l. getD l 2 0) e
 
-firstly : (p : Spot) (hi lo len : ℕ) → hi ∷ lo ∷ len ∷ [] ≡ spotWords p → hi ≡ getD (spotWords p) 0 0
-firstly p hi lo len e = ap (λ l. getD l 0 0) e
+firstly : (p : Spot) (y : Key) → wordsIn y ≡ spotWords p → (y .hi) ≡ getD (spotWords p) 0 0
+firstly p y e = ap (λ l. getD l 0 0) e
 
-module _ (d : List ℕ) (n : ℕ) (w : Way) (rs : List Row) (u : Weight) (there new : Bool) (hi lo len : ℕ) where
-  pub carry-into : (p : Spot) → hi ∷ lo ∷ len ∷ [] ≡ spotWords p → GoodSpot p → there ≡ isLocated (locateAt n p rs) → new ≡ makes w
+module _ (d : List ℕ) (n : ℕ) (w : Way) (rs : List Row) (u : Weight) (there new : Bool) (y : Key) where
+  pub carry-into : (p : Spot) → wordsIn y ≡ spotWords p → GoodSpot p → there ≡ isLocated (locateAt n p rs) → new ≡ makes w
       → Weighs (elementsFoundRows d (suc n) w (underOf (locateAt n p rs))) (runChange d n w (orNew n p (locateAt n p rs))) u
-      → Weighs (elementsFoundRows d n (into p w) rs) (underChange d n (into p w) rs) (carried u there (eqb len 17) (covered d hi) new)
+      → Weighs (elementsFoundRows d n (into p w) rs) (underChange d n (into p w) rs) (carried u there (eqb (y .len) 17) (covered d (y .hi)) new)
   unfolding elementsFoundRows underChange locateKey locateElement
   carry-into (inMap k) e g t m W =
-      let f : eqb len 17 ≡ false = ne-eqb len 17 (λ q. omega (arith, g .short, third (inMap k) hi lo len e)) in
+      let f : eqb (y .len) 17 ≡ false = ne-eqb (y .len) 17 (λ q. omega (arith, g .short, third (inMap k) y e)) in
       let L = locateAt n (inMap k) rs in
-      rw (f, t, m) (map-carry d n (inMap k) w u L (covered d hi) W)
+      rw (f, t, m) (map-carry d n (inMap k) w u L (covered d (y .hi)) W)
   carry-into (inList i) e g t m W =
-      let f : eqb len 17 ≡ true = eq-eqb len 17 (third (inList i) hi lo len e) in
-      let h : hi ≡ i = firstly (inList i) hi lo len e in
+      let f : eqb (y .len) 17 ≡ true = eq-eqb (y .len) 17 (third (inList i) y e) in
+      let h : (y .hi) ≡ i = firstly (inList i) y e in
       let L = locateAt n (inList i) rs in
       rw (f, t, h) (list-carry d n (inList i) w u L i new W)
 
@@ -93,37 +95,37 @@ insert-number p (plain v) = omega arith
 insert-number p emptyMap = omega arith
 insert-number p emptyList = omega arith
 
-module _ (h k m v : List ℕ) (rows : ℕ) (from : Position) (n : ℕ) (parent-known : Bool) (d : List ℕ) (deed hi lo len : ℕ) where
-  some-words : (hi ∷ lo ∷ len ∷ [] ≡ []) → ⊥
+module _ (h k m v : List ℕ) (rows : ℕ) (from : Position) (n : ℕ) (parent-known : Bool) (d : List ℕ) (deed : ℕ) (y : Key) where
+  some-words : (wordsIn y ≡ []) → ⊥
   some-words e = let z : _≡_ {A = ℕ} 3 0 = ap length e in omega arith
 
-  pub target-weighed : (s : Sight) (u : Weight) → deed < 3 → Looks h k rows from n parent-known hi lo len s → PlaceWeighed h m v rows s d deed u
-      → WayWeighed h k m v rows from n parent-known d deed (hi ∷ lo ∷ len ∷ [])
-      (carried u (s .there) (eqb len 17) (covered d hi) (not (eqb deed 0)))
+  pub target-weighed : (s : Sight) (u : Weight) → deed < 3 → Looks h k rows from n parent-known y s → PlaceWeighed h m v rows s d deed u
+      → WayWeighed h k m v rows from n parent-known d deed (wordsIn y)
+      (carried u (s .there) (eqb (y .len) 17) (covered d (y .hi)) (not (eqb deed 0)))
   unfolding wayWords wayNumber
   target-weighed s u small look place = record {
-    few-places = omega (arith, carried-places u (s .there) (eqb len 17) (covered d hi) (not (eqb deed 0)), place .few-places);
-    few-marks = omega (arith, carried-marks u (s .there) (eqb len 17) (covered d hi) (not (eqb deed 0)), place .few-marks);
+    few-places = omega (arith, carried-places u (s .there) (eqb (y .len) 17) (covered d (y .hi)) (not (eqb deed 0)), place .few-places);
+    few-marks = omega (arith, carried-marks u (s .there) (eqb (y .len) 17) (covered d (y .hi)) (not (eqb deed 0)), place .few-marks);
     is = λ c A B w H q f e g ok N. all c A B w H q f e g ok;
   }
     where
       X : Weight
-      X = carried u (s .there) (eqb len 17) (covered d hi) (not (eqb deed 0))
+      X = carried u (s .there) (eqb (y .len) 17) (covered d (y .hi)) (not (eqb deed 0))
 
       go : (c : Counts) (A B : List Row) (p : Spot) (w : Way) → Holds (four h k m v) c (A ++ B) → rows ≡ c .rows
-          → (parent-known ≡ true → from ≡ behind A) → hi ∷ lo ∷ len ∷ [] ≡ spotWords p → wayWords w ≡ [] → deed ≡ wayNumber w → GoodSpot p
+          → (parent-known ≡ true → from ≡ behind A) → wordsIn y ≡ spotWords p → wayWords w ≡ [] → deed ≡ wayNumber w → GoodSpot p
           → Weighs (elementsFoundRows d n (into p w) (cond parent-known B [])) (underChange d n (into p w) (cond parent-known B [])) X
       go c A B p w H q f e z g ok =
           let rs = cond parent-known B [] in
           let L = locateAt n p rs in
-          let S = look m v c A B (passOf p) (meantOf p) H q f (spot-agrees n hi lo len p e ok) (spot-tells n hi lo len p e ok) in
+          let S = look m v c A B (passOf p) (meantOf p) H q f (spot-agrees n y p e ok) (spot-tells n y p e ok) in
           let W = place .is k c (A ++ B) n p L w H q S z g in
-          carry-into d n w rs u (s .there) (not (eqb deed 0)) hi lo len p e ok (sees-there (A ++ B) n s L S)
+          carry-into d n w rs u (s .there) (not (eqb deed 0)) y p e ok (sees-there (A ++ B) n s L S)
           (ap (λ i. not (eqb i 0)) g ∙ ends-makes w (ends w z))
           (subst (λ b. Weighs b (runChange d n w (orNew n p L)) u) (sym (ends-found d (suc n) w (underOf L) (ends w z))) W)
 
       all : (c : Counts) (A B : List Row) (w : Way) → Holds (four h k m v) c (A ++ B) → rows ≡ c .rows
-          → (parent-known ≡ true → from ≡ behind A) → hi ∷ lo ∷ len ∷ [] ≡ wayWords w → deed ≡ wayNumber w → ValidWay w
+          → (parent-known ≡ true → from ≡ behind A) → wordsIn y ≡ wayWords w → deed ≡ wayNumber w → ValidWay w
           → Weighs (elementsFoundRows d n w (cond parent-known B [])) (underChange d n w (cond parent-known B [])) X
       all c A B (assign a) H q f e g ok = absurd (some-words e)
       all c A B delete H q f e g ok = absurd (some-words e)
@@ -135,12 +137,12 @@ module _ (h k m v : List ℕ) (rows : ℕ) (from : Position) (n : ℕ) (parent-k
 
   -- an insert, by what it comes after
   pub insert-weighed : (x : Weight) → 3 ≤ deed → x .places ≤ 1 → x .marks ≤ 1
-      → ((a : Assigned) → len ≡ 18 → deed ≡ cond (isPlain a) 3 4 → Weighs true (newChange a) x)
+      → ((a : Assigned) → (y .len) ≡ 18 → deed ≡ cond (isPlain a) 3 4 → Weighs true (newChange a) x)
       → ((c : Counts) (A B : List Row) (a : Assigned) (e : ℕ) → Holds (four h k m v) c (A ++ B) → rows ≡ c .rows
-      → (parent-known ≡ true → from ≡ behind A) → hi ∷ lo ∷ len ∷ [] ≡ spotWords (inList e) → deed ≡ cond (isPlain a) 3 4
+      → (parent-known ≡ true → from ≡ behind A) → wordsIn y ≡ spotWords (inList e) → deed ≡ cond (isPlain a) 3 4
       → Weighs (covered d e && isLocated (locateAt n (inList e) (cond parent-known B [])))
       (cond (isLocated (locateAt n (inList e) (cond parent-known B []))) (newChange a) noChange) x)
-      → WayWeighed h k m v rows from n parent-known d deed (hi ∷ lo ∷ len ∷ []) x
+      → WayWeighed h k m v rows from n parent-known d deed (wordsIn y) x
   unfolding wayWords prevWords wayNumber elementsFoundRows underChange locateElement
   insert-weighed x big fp fm first other = record {
     few-places = omega arith;
@@ -149,7 +151,7 @@ module _ (h k m v : List ℕ) (rows : ℕ) (from : Position) (n : ℕ) (parent-k
   }
     where
       all : (c : Counts) (A B : List Row) (w : Way) → Holds (four h k m v) c (A ++ B) → rows ≡ c .rows
-          → (parent-known ≡ true → from ≡ behind A) → hi ∷ lo ∷ len ∷ [] ≡ wayWords w → deed ≡ wayNumber w
+          → (parent-known ≡ true → from ≡ behind A) → wordsIn y ≡ wayWords w → deed ≡ wayNumber w
           → Weighs (elementsFoundRows d n w (cond parent-known B [])) (underChange d n w (cond parent-known B [])) x
       all c A B (assign a) H q f e g = absurd (some-words e)
       all c A B delete H q f e g = absurd (some-words e)
@@ -167,54 +169,54 @@ module _ (h k m v : List ℕ) (rows : ℕ) (from : Position) (n : ℕ) (parent-k
   element-is emptyList b e =
       rw e (record { found-is = refl; places = refl; marks = refl; values = refl; gone-marks = refl; gone-values = refl })
 
-  pub insert-first : 3 ≤ deed → len ≡ 18
-      → WayWeighed h k m v rows from n parent-known d deed (hi ∷ lo ∷ len ∷ []) (elementWeighed true deed)
+  pub insert-first : 3 ≤ deed → (y .len) ≡ 18
+      → WayWeighed h k m v rows from n parent-known d deed (wordsIn y) (elementWeighed true deed)
   unfolding elementWeighed
   insert-first big l =
       insert-weighed (elementWeighed true deed) big (omega arith) (omega arith) (λ a q g. element-is a true g)
-      (λ c A B a e H q f z g. absurd (omega (arith, third (inList e) hi lo len z)))
+      (λ c A B a e H q f z g. absurd (omega (arith, third (inList e) y z)))
 
   and-true : (b : Bool) → b && true ≡ b
   and-true true = refl
   and-true false = refl
 
-  pub insert-there : (s : Sight) → 3 ≤ deed → (len ≡ 18 → ⊥) → Looks h k rows from n parent-known hi lo len s → s .there ≡ true
-      → WayWeighed h k m v rows from n parent-known d deed (hi ∷ lo ∷ len ∷ []) (elementWeighed (covered d hi) deed)
+  pub insert-there : (s : Sight) → 3 ≤ deed → ((y .len) ≡ 18 → ⊥) → Looks h k rows from n parent-known y s → s .there ≡ true
+      → WayWeighed h k m v rows from n parent-known d deed (wordsIn y) (elementWeighed (covered d (y .hi)) deed)
   unfolding elementWeighed
   insert-there s big l look t =
-      insert-weighed (elementWeighed (covered d hi) deed) big (omega arith) (omega arith) (λ a q g. absurd (l q))
+      insert-weighed (elementWeighed (covered d (y .hi)) deed) big (omega arith) (omega arith) (λ a q g. absurd (l q))
       (λ c A B a e H q f z g. go c A B a e H q f z g)
     where
       go : (c : Counts) (A B : List Row) (a : Assigned) (e : ℕ) → Holds (four h k m v) c (A ++ B) → rows ≡ c .rows
-          → (parent-known ≡ true → from ≡ behind A) → hi ∷ lo ∷ len ∷ [] ≡ spotWords (inList e) → deed ≡ cond (isPlain a) 3 4
+          → (parent-known ≡ true → from ≡ behind A) → wordsIn y ≡ spotWords (inList e) → deed ≡ cond (isPlain a) 3 4
           → Weighs (covered d e && isLocated (locateAt n (inList e) (cond parent-known B [])))
-          (cond (isLocated (locateAt n (inList e) (cond parent-known B []))) (newChange a) noChange) (elementWeighed (covered d hi) deed)
+          (cond (isLocated (locateAt n (inList e) (cond parent-known B []))) (newChange a) noChange) (elementWeighed (covered d (y .hi)) deed)
       go c A B a e H q f z g =
           let L = locateAt n (inList e) (cond parent-known B []) in
-          let S = look m v c A B (passOf (inList e)) (meantOf (inList e)) H q f (spot-agrees n hi lo len (inList e) z tt)
-          (spot-tells n hi lo len (inList e) z tt) in
-          let y : isLocated L ≡ true = sym (sees-there (A ++ B) n s L S) ∙ t in
-          let i : hi ≡ e = firstly (inList e) hi lo len z in
-          subst (λ b. Weighs (covered d e && b) (cond b (newChange a) noChange) (elementWeighed (covered d hi) deed)) (sym y)
-          (subst (λ b. Weighs b (newChange a) (elementWeighed (covered d hi) deed)) (ap (covered d) i ∙ sym (and-true (covered d e)))
-          (element-is a (covered d hi) g))
+          let S = look m v c A B (passOf (inList e)) (meantOf (inList e)) H q f (spot-agrees n y (inList e) z tt)
+          (spot-tells n y (inList e) z tt) in
+          let u : isLocated L ≡ true = sym (sees-there (A ++ B) n s L S) ∙ t in
+          let i : (y .hi) ≡ e = firstly (inList e) y z in
+          subst (λ b. Weighs (covered d e && b) (cond b (newChange a) noChange) (elementWeighed (covered d (y .hi)) deed)) (sym u)
+          (subst (λ b. Weighs b (newChange a) (elementWeighed (covered d (y .hi)) deed)) (ap (covered d) i ∙ sym (and-true (covered d e)))
+          (element-is a (covered d (y .hi)) g))
 
-  pub insert-missing : (s : Sight) → 3 ≤ deed → (len ≡ 18 → ⊥) → Looks h k rows from n parent-known hi lo len s → s .there ≡ false
-      → WayWeighed h k m v rows from n parent-known d deed (hi ∷ lo ∷ len ∷ []) (nothingWeighed false)
+  pub insert-missing : (s : Sight) → 3 ≤ deed → ((y .len) ≡ 18 → ⊥) → Looks h k rows from n parent-known y s → s .there ≡ false
+      → WayWeighed h k m v rows from n parent-known d deed (wordsIn y) (nothingWeighed false)
   insert-missing s big l look t =
       insert-weighed (nothingWeighed false) big (omega arith) (omega arith) (λ a q g. absurd (l q))
       (λ c A B a e H q f z g. go c A B a e H q f z)
     where
       go : (c : Counts) (A B : List Row) (a : Assigned) (e : ℕ) → Holds (four h k m v) c (A ++ B) → rows ≡ c .rows
-          → (parent-known ≡ true → from ≡ behind A) → hi ∷ lo ∷ len ∷ [] ≡ spotWords (inList e)
+          → (parent-known ≡ true → from ≡ behind A) → wordsIn y ≡ spotWords (inList e)
           → Weighs (covered d e && isLocated (locateAt n (inList e) (cond parent-known B [])))
           (cond (isLocated (locateAt n (inList e) (cond parent-known B []))) (newChange a) noChange) (nothingWeighed false)
       go c A B a e H q f z =
           let L = locateAt n (inList e) (cond parent-known B []) in
-          let S = look m v c A B (passOf (inList e)) (meantOf (inList e)) H q f (spot-agrees n hi lo len (inList e) z tt)
-          (spot-tells n hi lo len (inList e) z tt) in
-          let y : isLocated L ≡ false = sym (sees-there (A ++ B) n s L S) ∙ t in
-          subst (λ b. Weighs (covered d e && b) (cond b (newChange a) noChange) (nothingWeighed false)) (sym y)
+          let S = look m v c A B (passOf (inList e)) (meantOf (inList e)) H q f (spot-agrees n y (inList e) z tt)
+          (spot-tells n y (inList e) z tt) in
+          let u : isLocated L ≡ false = sym (sees-there (A ++ B) n s L S) ∙ t in
+          subst (λ b. Weighs (covered d e && b) (cond b (newChange a) noChange) (nothingWeighed false)) (sym u)
           (record {
             found-is = sym (and-false (covered d e));
             places = refl;

@@ -21,6 +21,7 @@ use Rattle.message.specs.Means.{wayWords, deedOf}
 use Rattle.message.specs.declared.Deed.{Deed}
 use Rattle.message.specs.declared.Deed.the-variants as D
 use Rattle.tables.specs.Finds.{Agrees, Tells}
+use Rattle.readers.specs.declared.Key.{Key}
 use Rattle.tables.specs.Wants.{searchOf}
 use Rattle.tables.specs.Standing.{behind}
 use Rattle.tables.specs.Holding.{Holds, four}
@@ -39,10 +40,10 @@ pub data Sees (rs : List Row) (n : ℕ) (s : Sight) (l : Located) : Type 0 where
   standing : (F : List Row) (r : Row) (R : List Row) → s .there ≡ true → rs ≡ F ++ r ∷ R → s .at ≡ behind F → r .depth ≡ n
       → l ≡ here (record { own = r; under = passed (deeper n) R }) → Sees rs n s l
 
-abbrev pub Looks : List ℕ → List ℕ → ℕ → Position → ℕ → Bool → ℕ → ℕ → ℕ → Sight → Type 0
-Looks h k rows from n parent-known hi lo len s =
+abbrev pub Looks : List ℕ → List ℕ → ℕ → Position → ℕ → Bool → Key → Sight → Type 0
+Looks h k rows from n parent-known y s =
     (m v : List ℕ) (c : Counts) (A B : List Row) (pass meant : Spot → Bool) → Holds (four h k m v) c (A ++ B) → rows ≡ c .rows
-    → (parent-known ≡ true → from ≡ behind A) → Agrees (searchOf n hi lo len) pass → Tells (searchOf n hi lo len) meant
+    → (parent-known ≡ true → from ≡ behind A) → Agrees (searchOf n y) pass → Tells (searchOf n y) meant
     → Sees (A ++ B) n s (locate n pass meant (cond parent-known B []))
 
 -- the block that was found, or that of a new place

@@ -11,6 +11,9 @@ pub use loss::gone_row;
 pub use loss::gone_under;
 use meaning::Counters;
 use message::Deed;
+use readers::CARET;
+use readers::ELEMENT;
+use readers::Key;
 use sums::carry;
 use sums::deed_number;
 use sums::element;
@@ -22,7 +25,8 @@ use tables::is_at;
 use tables::next_row;
 use tables::search_of;
 ghost use Prim.Native.Nat.{ℕ, _<_, _≤_};
-ghost use mathlib.Core.List.{List, [], _∷_};
+ghost use mathlib.Core.List.{List};
+ghost use Rattle.readers.specs.Hex.{wordsIn};
 ghost use Rattle.forecast.specs.Weighs.{Looks, SightGone, PlaceWeighed, WayWeighed, Weighed};
 
 // How many marks and values go.
@@ -55,11 +59,9 @@ pub fn look(
     from: Position,
     n: u64,
     parent_known: bool,
-    hi: u64,
-    lo: u64,
-    len: u64,
+    key: Key,
 ) -> Sight
-    ensures { λ s. ⌜ Looks (now (heads .entry)) (now (keys .entry)) rows from n «parent_known» hi lo len s ⌝ }
+    ensures { λ s. ⌜ Looks (now (heads .entry)) (now (keys .entry)) rows from n «parent_known» key s ⌝ }
 {
     if !parent_known {
         return Sight {
@@ -67,7 +69,7 @@ pub fn look(
             there: false,
         };
     }
-    let w = search_of(n, hi, lo, len);
+    let w = search_of(n, key);
     let at = find(heads, keys, rows, from, w);
     let there = is_at(heads, keys, rows, at.row, w);
     Sight {
@@ -158,20 +160,18 @@ fn weigh_insert(
     parent_known: bool,
     d: Counters,
     deed: u64,
-    hi: u64,
-    lo: u64,
-    len: u64,
+    key: Key,
 ) -> Weight
     requires { ⌜ 3 ≤ deed ⌝ }
     ensures { λ x. ⌜ ((m v : List ℕ) → WayWeighed (now (heads .entry)) (now (keys .entry)) m v
-        rows from n «parent_known» (d .at) deed (hi ∷ lo ∷ len ∷ []) x) ⌝ }
+        rows from n «parent_known» (d .at) deed (wordsIn key) x) ⌝ }
 {
-    if len == 18 {
+    if key.len == CARET {
         return element(true, deed);
     }
-    let s = look(heads, keys, rows, from, n, parent_known, hi, lo, len);
+    let s = look(heads, keys, rows, from, n, parent_known, key);
     if s.there {
-        return element(covered(d, hi), deed);
+        return element(covered(d, key.hi), deed);
     }
     weightless(false)
 }
@@ -188,17 +188,21 @@ fn weigh_target(
     parent_known: bool,
     d: Counters,
     deed: u64,
-    hi: u64,
-    lo: u64,
-    len: u64,
+    key: Key,
 ) -> Weight
     requires { ⌜ deed < 3 ⌝ }
     ensures { λ x. ⌜ WayWeighed (now (heads .entry)) (now (keys .entry)) (now (marks .entry)) (now (values .entry))
-        rows from n «parent_known» (d .at) deed (hi ∷ lo ∷ len ∷ []) x ⌝ }
+        rows from n «parent_known» (d .at) deed (wordsIn key) x ⌝ }
 {
-    let s = look(heads, keys, rows, from, n, parent_known, hi, lo, len);
+    let s = look(heads, keys, rows, from, n, parent_known, key);
     let u = weigh_place(heads, marks, values, rows, s, d, deed);
-    carry(u, s.there, len == 17, covered(d, hi), deed != 0)
+    carry(
+        u,
+        s.there,
+        key.len == ELEMENT,
+        covered(d, key.hi),
+        deed != 0,
+    )
 }
 
 fn weigh_last(
@@ -212,27 +216,13 @@ fn weigh_last(
     parent_known: bool,
     d: Counters,
     deed: u64,
-    hi: u64,
-    lo: u64,
-    len: u64,
+    key: Key,
 ) -> Weight
     ensures { λ x. ⌜ WayWeighed (now (heads .entry)) (now (keys .entry)) (now (marks .entry)) (now (values .entry))
-        rows from n «parent_known» (d .at) deed (hi ∷ lo ∷ len ∷ []) x ⌝ }
+        rows from n «parent_known» (d .at) deed (wordsIn key) x ⌝ }
 {
     if deed >= 3 {
-        return weigh_insert(
-            heads,
-            keys,
-            rows,
-            from,
-            n,
-            parent_known,
-            d,
-            deed,
-            hi,
-            lo,
-            len,
-        );
+        return weigh_insert(heads, keys, rows, from, n, parent_known, d, deed, key);
     }
     weigh_target(
         heads,
@@ -245,9 +235,7 @@ fn weigh_last(
         parent_known,
         d,
         deed,
-        hi,
-        lo,
-        len,
+        key,
     )
 }
 
@@ -274,9 +262,11 @@ fn weigh_way(
     if n > 8 {
         return weightless(true);
     }
-    let hi = way[0];
-    let lo = way[1];
-    let len = way[2];
+    let key = Key {
+        hi: way[0],
+        lo: way[1],
+        len: way[2],
+    };
     if way.len() == 3 {
         return weigh_last(
             heads,
@@ -289,12 +279,10 @@ fn weigh_way(
             parent_known,
             d,
             deed,
-            hi,
-            lo,
-            len,
+            key,
         );
     }
-    let s = look(heads, keys, rows, from, n, parent_known, hi, lo, len);
+    let s = look(heads, keys, rows, from, n, parent_known, key);
     let next = next_row(heads, s.at);
     let under = weigh_way(
         heads,
@@ -310,7 +298,7 @@ fn weigh_way(
         &way[3..],
     );
     let u = mark(under, deed);
-    carry(u, s.there, len == 17, covered(d, hi), true)
+    carry(u, s.there, key.len == ELEMENT, covered(d, key.hi), true)
 }
 
 // The same, of a deed.

@@ -13,6 +13,8 @@ use Rattle.rows.specs.Within.{underRows, underChange}
 use Rattle.message.specs.Means.{pad}
 use Rattle.tables.specs.Words.{spotWords}
 use Rattle.tables.specs.Finds.{after}
+use Rattle.readers.specs.Hex.{wordsIn}
+use Rattle.tables.specs.Heads.{keyIn}
 use Rattle.tables.specs.Wants.{searchOf, spot-agrees}
 use Rattle.tables.specs.Stands.{FindsIn}
 use Rattle.tables.specs.Standing.{first, behind}
@@ -25,13 +27,13 @@ unfolding after
 first-behind = refl
 
 -- what the search finds
-pub tops : (h k : List ℕ) (rows : ℕ) (ks : List ℕ) (w : Search) (r : Position) → w ≡ searchOf 1 (getD ks 0 0) (getD ks 1 0) (getD ks 2 0)
+pub tops : (h k : List ℕ) (rows : ℕ) (ks : List ℕ) (w : Search) (r : Position) → w ≡ searchOf 1 (keyIn ks)
     → FindsIn h k rows first w r → TopsIn h k rows ks r
 unfolding pad searchOf
 tops h k rows ks w r e F m v c q D o S x val =
-    let words : getD ks 0 0 ∷ getD ks 1 0 ∷ getD ks 2 0 ∷ [] ≡ spotWords (inMap (o .top)) = rw x in
+    let words : wordsIn (keyIn ks) ≡ spotWords (inMap (o .top)) = rw x in
     subst (λ w. FindsIn h k rows first w r) e F m v c [] (rowsOf D) (keyBelow (o .top)) (S .rows) q first-behind
-    (spot-agrees 1 (getD ks 0 0) (getD ks 1 0) (getD ks 2 0) (inMap (o .top)) words (val .edit .first))
+    (spot-agrees 1 (keyIn ks) (inMap (o .top)) words (val .edit .first))
 
 module _ (p : Row → Bool) where
   passed-none : (rs : List Row) → passed p (rest p rs) ≡ []

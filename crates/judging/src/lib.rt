@@ -8,6 +8,7 @@ use limits::is_small;
 use meaning::Counters;
 use message::Deed;
 use message::Operation;
+use readers::Key;
 use tables::Counts;
 use tables::Position;
 ghost use mathlib.Core.Path.{_≡_};
@@ -164,7 +165,12 @@ pub fn top_of(heads: &[u64], keys: &[u64], rows: usize, op: Operation) -> Positi
         mark: 0,
         value: 0,
     };
-    let w = tables::search_of(1, words[0], words[1], words[2]);
+    let top = Key {
+        hi: words[0],
+        lo: words[1],
+        len: words[2],
+    };
+    let w = tables::search_of(1, top);
     tables::find(heads, keys, rows, first, w)
 }
 

@@ -1,5 +1,9 @@
 // Where a new element comes among the rows of the document's tables. Document 01, "Applying an operation": behind its predecessor or the
 // head, and on over elements with greater ids. It is safe on any memory.
+use readers::CARET;
+use readers::ELEMENT;
+use readers::Key;
+use tables::Aim;
 use tables::Position;
 use tables::Search;
 use tables::next_row;
@@ -24,28 +28,28 @@ pub fn find_seat(
 ) -> Seat
     ensures { λ r. ⌜ Seats n hi len id rows from (now (heads .entry)) (now (keys .entry)) r ⌝ }
 {
-    if len == 18 {
-        let at = tables::find(
-            heads,
-            keys,
-            rows,
-            from,
-            Search {
-                kind: 3,
-                depth: n,
-                hi: id,
-                lo: 0,
-                len: 17,
-            },
-        );
+    let new = Key {
+        hi: id,
+        lo: 0,
+        len: ELEMENT,
+    };
+    if len == CARET {
+        let first = Search {
+            aim: Aim::FirstSeat,
+            depth: n,
+            key: new,
+        };
+        let at = tables::find(heads, keys, rows, from, first);
         return Seat { there: true, at };
     }
     let w = Search {
-        kind: 1,
+        aim: Aim::Element,
         depth: n,
-        hi,
-        lo: 0,
-        len: 17,
+        key: Key {
+            hi,
+            lo: 0,
+            len: ELEMENT,
+        },
     };
     let t = tables::find(heads, keys, rows, from, w);
     let row = t.row;
@@ -56,18 +60,11 @@ pub fn find_seat(
         };
     }
     let p = next_row(heads, t);
-    let at = tables::find(
-        heads,
-        keys,
-        rows,
-        p,
-        Search {
-            kind: 2,
-            depth: n,
-            hi: id,
-            lo: 0,
-            len: 17,
-        },
-    );
+    let seat = Search {
+        aim: Aim::Seat,
+        depth: n,
+        key: new,
+    };
+    let at = tables::find(heads, keys, rows, p, seat);
     Seat { there: true, at }
 }

@@ -14,7 +14,7 @@ returns c =
 returns-2 : tie.Need-returns-2
 returns-2 c =
     let b = c .before .before .before .before in
-    let i = b .before .before .before in
+    let i = b .before .before .before .before in
     let k = i .before .before in
     lead-new _ _ _ _ _ _ (k .before .before .before .find .ensures) _ _ _ _ _ (k .is-at .ensures) (i .before .if1 .left)
     (i .if2 .taken)

@@ -66,12 +66,13 @@ weigh-way-mark-requires t c κs =
 
 weigh-way-carry-requires : (t : ℕ) → weigh-way-lts.Need-carry-requires (claims t) (weigh-way-at t) weigh-way.Post
 weigh-way-carry-requires t c κs =
-    let at-weigh-way = c .before .before in
+    let at-mark = c .before .before in
+    let at-weigh-way = at-mark .before in
     let at-weigh-way-arg = at-weigh-way .before in
     let at-good = at-weigh-way-arg .before .before .before .before .before
     .before .before .before .before .before .before .before .before .before in
-    let e : c .before .mark .result .places ≡ at-weigh-way .weigh-way .result .places =
-    ap (λ u. u .places) (c .before .mark .ensures) ∙ marked-places _ _ in
+    let e : at-mark .mark .result .places ≡ at-weigh-way .weigh-way .result .places =
+    ap (λ u. u .places) (at-mark .mark .ensures) ∙ marked-places _ _ in
     omega (
       arith,
       e,
@@ -83,7 +84,7 @@ weigh-way-carry-requires t c κs =
 
 weigh-way-returns-4 : (t : ℕ) → weigh-way-lts.Need-returns-4 (claims t) (weigh-way-at t) weigh-way.Post
 weigh-way-returns-4 t c =
-    let at-mark = c .before .before in
+    let at-mark = c .before .before .before in
     let at-weigh-way = at-mark .before in
     let at-next-row = at-weigh-way .before .before in
     let at-look = at-next-row .before in

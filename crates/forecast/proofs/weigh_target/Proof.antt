@@ -6,11 +6,11 @@ use Rattle.forecast.proofs.weigh_target.Tie as tie
 
 returns : tie.Need-returns
 returns c =
-    let at-weigh-place = c .before .before in
+    let at-weigh-place = c .before .before .before in
     let at-look = at-weigh-place .before in
     let at-pre = at-look .before .before .before .before .before in
     rw (c .carry .ensures, c .before .covered .ensures)
-    (target-weighed _ _ _ _ _ _ _ _ _ _ _ _ _ _ _ (at-pre .pre) (at-look .look .ensures) (at-weigh-place .weigh-place .ensures))
+    (target-weighed _ _ _ _ _ _ _ _ _ _ _ _ _ (at-pre .pre) (at-look .look .ensures) (at-weigh-place .weigh-place .ensures))
 
 pub weigh-target-spec : {M : Type 1} → statement M
 weigh-target-spec =
