@@ -29,9 +29,10 @@ use Rattle.tables.specs.Seek.{Passes}
 use Rattle.tables.specs.Stands.{passes}
 use Rattle.tables.specs.declared.Counts.{Counts}
 use Rattle.tables.specs.declared.Position.{Position}
-use Rattle.forecast.specs.declared.Sight.{Sight}
+use Rattle.finder.specs.declared.Sight.{Sight}
 use Rattle.forecast.specs.declared.Weight.{Weight}
-use Rattle.forecast.specs.Weighs.{Sees, missing, standing, Looks, orNew, wayNumber, Weighs, nothingWeighed, marked, carried, WayWeighed}
+use Rattle.finder.specs.Looks.{Sees, missing, standing, Looks}
+use Rattle.forecast.specs.Weighs.{orNew, wayNumber, Weighs, nothingWeighed, marked, carried, WayWeighed}
 use Rattle.forecast.proofs.Looks.{false-true}
 use Rattle.forecast.proofs.Weights.{carried-places, carried-marks, marked-marks, marked-places, mark-is}
 use Rattle.forecast.proofs.Ways.{into, locateAt, sees-there, carry-into}

@@ -24,9 +24,10 @@ use Rattle.tables.specs.Standing.{behind}
 use Rattle.tables.specs.Holding.{Holds, four}
 use Rattle.tables.specs.declared.Counts.{Counts}
 use Rattle.tables.specs.declared.Position.{Position}
-use Rattle.forecast.specs.declared.Sight.{Sight}
+use Rattle.finder.specs.declared.Sight.{Sight}
 use Rattle.forecast.specs.declared.Weight.{Weight}
-use Rattle.forecast.specs.Weighs.{Sees, missing, standing, Looks, orNew}
+use Rattle.finder.specs.Looks.{Sees, missing, standing, Looks}
+use Rattle.forecast.specs.Weighs.{orNew}
 use Rattle.forecast.specs.Weighs.{isPlain, wayNumber, Weighs, nothingWeighed, elementWeighed, carried}
 use Rattle.forecast.specs.Weighs.{PlaceWeighed, WayWeighed}
 use Rattle.forecast.proofs.Weights.{Ends, ends, and-false, map-carry, list-carry, carried-places, carried-marks}

@@ -19,10 +19,11 @@ use Rattle.message.specs.Means.{wayWords, prevWords}
 use Rattle.tables.specs.Holding.{Holds, four}
 use Rattle.tables.specs.declared.Counts.{Counts}
 use Rattle.forecast.specs.declared.Lost.{Lost}
-use Rattle.forecast.specs.declared.Sight.{Sight}
+use Rattle.finder.specs.declared.Sight.{Sight}
 use Rattle.forecast.specs.declared.Weight.{Weight}
 use Rattle.forecast.specs.Goes.{Goes}
-use Rattle.forecast.specs.Weighs.{Sees, orNew, GoesAt, SightGone, wayNumber, Weighs}
+use Rattle.finder.specs.Looks.{Sees}
+use Rattle.forecast.specs.Weighs.{orNew, GoesAt, SightGone, wayNumber, Weighs}
 use Rattle.forecast.specs.Weighs.{nothingWeighed, marked, unled, placed, carried, PlaceWeighed}
 
 -- A way that ends here.

@@ -11,8 +11,8 @@ use lib.ListN.{length}
 use Rattle.meaning.specs.Ways.{Assigned, plain, emptyMap, emptyList, Way, assign, delete, insert, intoMap, intoList, steps}
 use Rattle.meaning.specs.Valid.{ValidWay}
 use Rattle.meaning.specs.Sheet.{Spot, Row}
-use Rattle.rows.specs.Blocks.{Block, join, passed, deeper}
-use Rattle.rows.specs.Locate.{Located, nowhere, here, locate, elementsFoundRows}
+use Rattle.rows.specs.Blocks.{Block, join}
+use Rattle.rows.specs.Locate.{Located, nowhere, here, elementsFoundRows}
 use Rattle.rows.specs.Counting.{Change, goneValues, newBlock, runChange}
 use Rattle.rows.specs.Within.{underChange}
 use Rattle.readers.specs.declared.Given.{Given}
@@ -20,31 +20,15 @@ use Rattle.readers.specs.declared.Given.the-variants as G
 use Rattle.message.specs.Means.{wayWords, deedOf}
 use Rattle.message.specs.declared.Deed.{Deed}
 use Rattle.message.specs.declared.Deed.the-variants as D
-use Rattle.tables.specs.Finds.{Agrees, Tells}
-use Rattle.readers.specs.declared.Key.{Key}
-use Rattle.tables.specs.Wants.{searchOf}
 use Rattle.tables.specs.Standing.{behind}
 use Rattle.tables.specs.Holding.{Holds, four}
 use Rattle.tables.specs.declared.Counts.{Counts}
 use Rattle.tables.specs.declared.Position.{Position}
+use Rattle.finder.specs.Looks.{Sees}
+use Rattle.finder.specs.declared.Sight.{Sight}
 use Rattle.forecast.specs.declared.Lost.{Lost}
-use Rattle.forecast.specs.declared.Sight.{Sight}
 use Rattle.forecast.specs.declared.Weight.{Weight}
 use Rattle.forecast.specs.Goes.{Goes}
-
--- Looking for a place.
-
--- among the rows rs, what was looked for is this
-pub data Sees (rs : List Row) (n : ℕ) (s : Sight) (l : Located) : Type 0 where
-  missing : s .there ≡ false → l ≡ nowhere → Sees rs n s l
-  standing : (F : List Row) (r : Row) (R : List Row) → s .there ≡ true → rs ≡ F ++ r ∷ R → s .at ≡ behind F → r .depth ≡ n
-      → l ≡ here (record { own = r; under = passed (deeper n) R }) → Sees rs n s l
-
-abbrev pub Looks : List ℕ → List ℕ → ℕ → Position → ℕ → Bool → Key → Sight → Type 0
-Looks h k rows from n parent-known y s =
-    (m v : List ℕ) (c : Counts) (A B : List Row) (pass meant : Spot → Bool) → Holds (four h k m v) c (A ++ B) → rows ≡ c .rows
-    → (parent-known ≡ true → from ≡ behind A) → Agrees (searchOf n y) pass → Tells (searchOf n y) meant
-    → Sees (A ++ B) n s (locate n pass meant (cond parent-known B []))
 
 -- the block that was found, or that of a new place
 abbrev pub orNew : ℕ → Spot → Located → Block

@@ -5,6 +5,8 @@ mod loss;
 mod sums;
 
 use counters::covered;
+use finder::Sight;
+use finder::look;
 pub use loss::depth_at;
 pub use loss::gone;
 pub use loss::gone_row;
@@ -20,25 +22,16 @@ use sums::element;
 use sums::mark;
 use sums::weightless;
 use tables::Position;
-use tables::find;
-use tables::is_at;
 use tables::next_row;
-use tables::search_of;
 ghost use Prim.Native.Nat.{ℕ, _<_, _≤_};
 ghost use mathlib.Core.List.{List};
 ghost use Rattle.readers.specs.Hex.{wordsIn};
-ghost use Rattle.forecast.specs.Weighs.{Looks, SightGone, PlaceWeighed, WayWeighed, Weighed};
+ghost use Rattle.forecast.specs.Weighs.{SightGone, PlaceWeighed, WayWeighed, Weighed};
 
 // How many marks and values go.
 pub struct Lost {
     pub marks: usize,
     pub values: usize,
-}
-
-// A place that was looked for: where it stands, and whether it does.
-pub struct Sight {
-    pub at: Position,
-    pub there: bool,
 }
 
 // What an operation comes to: whether each element on its way is there; how many places, marks and values come; how many go.
@@ -49,33 +42,6 @@ pub struct Weight {
     pub values: usize,
     pub gone_marks: usize,
     pub gone_values: usize,
-}
-
-// Looks for the place under a key among the rows from a place on, of depth n; nothing is there if nothing hangs there.
-pub fn look(
-    heads: &[u64],
-    keys: &[u64],
-    rows: usize,
-    from: Position,
-    n: u64,
-    parent_known: bool,
-    key: Key,
-) -> Sight
-    ensures { λ s. ⌜ Looks (now (heads .entry)) (now (keys .entry)) rows from n «parent_known» key s ⌝ }
-{
-    if !parent_known {
-        return Sight {
-            at: from,
-            there: false,
-        };
-    }
-    let w = search_of(n, key);
-    let at = find(heads, keys, rows, from, w);
-    let there = is_at(heads, keys, rows, at.row, w);
-    Sight {
-        at: at,
-        there: there,
-    }
 }
 
 // What goes at a place that is assigned or deleted: of its own values, if the value is a plain one, else of its block.

@@ -4,7 +4,6 @@ use Prim.Native.Nat.{ℕ}
 use mathlib.Core.Path.{_≡_, refl, subst}
 use mathlib.Core.Bool.{Bool, true, false, cond}
 use mathlib.Core.List.{List, [], _∷_, _++_}
-use lib.ListN.{getD}
 use Rattle.meaning.specs.Sheet.{inMap, Row, rowsOf}
 use Rattle.meaning.specs.Ways.{Way, intoMap}
 use Rattle.rows.specs.Blocks.{passed, rest, keyBelow, over, seekRows, atKeyRows}

@@ -5,7 +5,7 @@ use Prim.Native.Nat.{ℕ, suc, _-_}
 use native.Mathlib.Omega.{arith}
 use mathlib.Core.Path.{_≡_, refl, sym, ap, _∙_}
 use mathlib.Core.Bool.{Bool, true, false}
-use mathlib.Core.List.{List, [], _∷_, _++_, nil≢cons, head-eq-of-cons-eq, tail-eq-of-cons-eq}
+use mathlib.Core.List.{List, [], _∷_, nil≢cons, head-eq-of-cons-eq, tail-eq-of-cons-eq}
 use lib.ListN.{length, replicate}
 use Rattle.meaning.specs.Places.{Place, place, Children, childless, child, Elements, empty, element, Document}
 use Rattle.meaning.specs.Members.{All}

@@ -1,6 +1,6 @@
 -- Tables that hold rows, in parts: the words of a row stand behind those of the rows before it, and before those of the rows behind it.
 -- Assumes nothing.
-use Prim.Native.Nat.{ℕ, _+_, _*_, _-_, _≤_, _<_}
+use Prim.Native.Nat.{ℕ, _+_, _*_, _-_, _<_}
 use native.Mathlib.Omega.{arith}
 use mathlib.Core.Path.{_≡_, refl, sym, ap, _∙_}
 use mathlib.Core.Bool.{true, false}
@@ -11,12 +11,11 @@ use Rattle.meaning.specs.Places.{Plain, null, bool, integer, string, Value}
 use Rattle.meaning.specs.Members.{All}
 use Rattle.meaning.specs.Load.{marksIn, valuesIn}
 use Rattle.meaning.specs.Sheet.{Row}
-use Rattle.theorems.specs.Accepting.{marks-append, values-append}
 use Rattle.words.proofs.Padded.{pad-length}
-use Rattle.tables.specs.Words.{valueWords, plainWords, eachValue, headWord, spotWords, Tables}
-use Rattle.tables.specs.Words.{headsOf, keysOf, marksOf, valuesOf, pad}
-use Rattle.tables.specs.Finds.{Narrow, AllNarrow, nextRow, after}
-use Rattle.tables.specs.Standing.{first, behind, heads-append, keys-append, heads-length, keys-length}
+use Rattle.tables.specs.Words.{valueWords, plainWords, eachValue, headWord, Tables}
+use Rattle.tables.specs.Words.{headsOf, keysOf, marksOf, valuesOf}
+use Rattle.tables.specs.Finds.{AllNarrow, nextRow, after}
+use Rattle.tables.specs.Standing.{first, behind, heads-append, heads-length, keys-length}
 use Rattle.tables.specs.Holding.{headsRoom, keysRoom, marksRoom, valuesRoom, Good, Holds}
 use Rattle.tables.specs.declared.Counts.{Counts}
 use Rattle.tables.specs.declared.Position.{Position}

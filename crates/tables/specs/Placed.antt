@@ -4,7 +4,7 @@
 use Prim.Native.Nat.{_+_, _≤_, _<_}
 use native.Mathlib.Omega.{arith}
 use mathlib.Core.Path.{_≡_}
-use mathlib.Core.List.{List, [], _∷_, _++_}
+use mathlib.Core.List.{List, _∷_, _++_}
 use lib.ListN.{length, getD}
 use Rattle.meaning.specs.Sheet.{Row}
 use Rattle.tables.specs.Words.{headWord, marksAt, valuesAt, Tables}

@@ -6,12 +6,11 @@ use mathlib.Core.Path.{_≡_, sym, ap, subst, _∙_}
 use mathlib.Core.Bool.{Bool, cond, not}
 use mathlib.Core.List.{List}
 use lib.Dec.{ltb}
-use lib.ListN.{length, drop, getD}
+use lib.ListN.{getD}
 use borrow.Author.Tests.{lt-ltb, le-ltb}
 use Rattle.meaning.specs.Valid.{ValidKey}
 use Rattle.meaning.specs.Sheet.{Spot, inMap, inList}
 use Rattle.rows.specs.Blocks.{keyBelow, isKey, isId}
-use Rattle.readers.specs.Words.{pack}
 use Rattle.tables.specs.Words.{spotWords}
 use Rattle.tables.specs.Finds.{GoodSpot, Agrees, Tells, wantKey, wantElement, key-agrees, element-agrees, key-tells, element-tells}
 use Rattle.readers.specs.Hex.{wordsIn}

@@ -4,7 +4,7 @@
 -- a row by its number: where a row's marks stand is how many the rows before it have, and to open a row moves nothing but rows. Behind
 -- the live words a table is zeros, so equal documents have equal memory.
 -- Assumes nothing: these are definitions.
-use Prim.Native.Nat.{ℕ, _+_, _*_, _-_, _/_, _%_}
+use Prim.Native.Nat.{ℕ, _+_, _*_, _/_, _%_}
 use mathlib.Core.Bool.{Bool, true, false}
 use mathlib.Core.List.{List, [], _∷_, _++_}
 use lib.IntN.{pos, negsuc}

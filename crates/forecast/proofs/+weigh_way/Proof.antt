@@ -14,7 +14,7 @@ use Rattle.forecast.proofs.+weigh_way.Lts-weigh_way as weigh-way-lts
 use Rattle.counters.proofs.covered.Reads as covered-reads
 use Rattle.tables.proofs.next_row.Reads as next-row-reads
 use Rattle.forecast.proofs.sums.carry.Reads as carry-reads
-use Rattle.forecast.proofs.look.Reads as look-reads
+use Rattle.finder.proofs.look.Reads as look-reads
 use Rattle.forecast.proofs.sums.mark.Reads as mark-reads
 use Rattle.forecast.proofs.weigh_last.Reads as weigh-last-reads
 use Rattle.forecast.proofs.sums.weightless.Reads as weightless-reads

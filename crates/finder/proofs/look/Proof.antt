@@ -1,10 +1,10 @@
--- `forecast::look` meets its contract. Assumes nothing.
+-- `finder::look` meets its contract. Assumes nothing.
 use borrow.Author.Needs.{needs}
 use mathlib.Core.Path.{refl}
 use borrow.Author.Tests.{not-true, not-false}
-use Rattle.forecast.proofs.Looks.{looks-none, looks-found}
-use Rattle.forecast.proofs.look.Statement.{statement}
-use Rattle.forecast.proofs.look.Tie as tie
+use Rattle.finder.proofs.Looks.{looks-none, looks-found}
+use Rattle.finder.proofs.look.Statement.{statement}
+use Rattle.finder.proofs.look.Tie as tie
 
 returns-2 : tie.Need-returns-2
 returns-2 c =
