@@ -1,4 +1,5 @@
 pub mod Words
+pub mod Heads
 pub mod Seek
 pub mod Finds
 pub mod Wants

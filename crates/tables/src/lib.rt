@@ -1,10 +1,12 @@
 // The document's tables in lent memory, and the single steps over them.
 // Rows stand in the sheet's order. `heads` has a word a row: depth, side, flags, and how many marks and values the row has; `keys`
 // three words a row; `marks` the ids that mark the rows, row after row; `values` six words a value, row after row.
+use readers::Key;
 ghost use mathlib.Core.Path.{_≡_};
 ghost use Prim.Native.Nat.{_+_, _*_, _-_, _≤_, _<_};
 ghost use lib.ListN.{length, getD};
 ghost use Rattle.tables.specs.Seek.{turn, turnNumber, passesOne, goesOver, isSought, Passes, Searches, holdsIf, sought};
+ghost use Rattle.tables.specs.Heads.{headIn, keyAt};
 ghost use Rattle.tables.specs.Holding.{withinTables};
 ghost use Rattle.tables.specs.Wants.{searchOf};
 ghost use Rattle.tables.specs.Stands.{FindsIn, Knows};
@@ -31,6 +33,20 @@ pub struct Position {
     pub mark: usize,
     pub value: usize,
 }
+
+// What a row's head says: its depth, the parent's branch that it hangs in (`MAP` or `LIST`), its flags, how many marks and values it has.
+pub struct Head {
+    pub depth: u64,
+    pub side: u64,
+    pub map: bool,
+    pub list: bool,
+    pub marks: usize,
+    pub values: usize,
+}
+
+pub const MAP: u64 = 0;
+
+pub const LIST: u64 = 1;
 
 // How many rows, marks and values the tables hold.
 pub struct Counts {
@@ -69,6 +85,40 @@ pub fn word(t: &[u64], i: usize) -> u64
     if i < t.len() { t[i] } else { 0 }
 }
 
+// What a head's word says.
+pub fn head_in(h: u64) -> Head
+    ensures { λ r. ⌜ r ≡ headIn h ⌝ }
+{
+    Head {
+        depth: h % 16,
+        side: h / 16 % 2,
+        map: h / 32 % 2 == 1,
+        list: h / 64 % 2 == 1,
+        marks: (h / 128 % 2048) as usize,
+        values: (h / 262144 % 512) as usize,
+    }
+}
+
+// What the head of a row says; behind the tables' end that of the word 0.
+pub fn head_at(heads: &[u64], row: usize) -> Head
+    ensures { λ r. ⌜ r ≡ headIn (getD (now (heads .entry)) row 0) ⌝ }
+{
+    head_in(word(heads, row))
+}
+
+// The key of a row; behind the tables' end that of three words 0.
+pub fn key_at(keys: &[u64], row: usize) -> Key
+    requires { ⌜ row < 1048576 ⌝ }
+    ensures { λ r. ⌜ r ≡ keyAt (now (keys .entry)) row ⌝ }
+{
+    let at = 3 * row;
+    Key {
+        hi: word(keys, at),
+        lo: word(keys, at + 1),
+        len: word(keys, at + 2),
+    }
+}
+
 // The place behind a row, by the row's head. Where no row of a table can stand, that place itself.
 pub fn next_row(heads: &[u64], s: Position) -> Position
     ensures { λ r. ⌜ Passes (now (heads .entry)) s r ⌝ }
@@ -82,11 +132,11 @@ pub fn next_row(heads: &[u64], s: Position) -> Position
     if s.value > 524288 {
         return s;
     }
-    let h = word(heads, s.row);
+    let h = head_at(heads, s.row);
     Position {
         row: s.row + 1,
-        mark: s.mark + (h / 128 % 2048) as usize,
-        value: s.value + (h / 262144 % 512) as usize,
+        mark: s.mark + h.marks,
+        value: s.value + h.values,
     }
 }
 
