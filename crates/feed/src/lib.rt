@@ -3,6 +3,11 @@
 use keeping::State;
 use stream::Cut;
 use stream::Step;
+use tables::HEADS;
+use tables::KEYS;
+use tables::MARKS;
+use tables::VALUES;
+use waiting::WAITING;
 ghost use mathlib.Core.Path.{_≡_};
 ghost use Rattle.tables.specs.Holding.{four};
 ghost use Rattle.stream.specs.Pieces.{CutInside};
@@ -23,11 +28,11 @@ struct One {
 
 // The next piece: a whole message is received, one that is too long is passed over.
 fn take_one(
-    heads: &mut [u64],
-    keys: &mut [u64],
-    marks: &mut [u64],
-    values: &mut [u64],
-    waiting: &mut [u64],
+    heads: &mut [u64; HEADS],
+    keys: &mut [u64; KEYS],
+    marks: &mut [u64; MARKS],
+    values: &mut [u64; VALUES],
+    waiting: &mut [u64; WAITING],
     s: State,
     buf: &[u8],
     c: Cut,
@@ -65,11 +70,11 @@ fn take_one(
 
 // Receives every message whose end is known, of the bytes that are read and not handed over; `last` if no byte follows them.
 pub fn take_in(
-    heads: &mut [u64],
-    keys: &mut [u64],
-    marks: &mut [u64],
-    values: &mut [u64],
-    waiting: &mut [u64],
+    heads: &mut [u64; HEADS],
+    keys: &mut [u64; KEYS],
+    marks: &mut [u64; MARKS],
+    values: &mut [u64; VALUES],
+    waiting: &mut [u64; WAITING],
     s: State,
     buf: &[u8],
     c: Cut,

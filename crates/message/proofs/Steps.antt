@@ -15,7 +15,7 @@ use Rattle.decimal.specs.Take.{Took, Never, fixed}
 use Rattle.decimal.specs.Numbers.{NoDigit}
 use Rattle.readers.specs.Reads.{keys, ids, either, ReadsId}
 use Rattle.readers.specs.Hex.{KeyTook, ReadsKey}
-use Rattle.readers.specs.declared.KeyRead.{KeyRead}
+use Rattle.readers.specs.declared.Key.{Key}
 use Rattle.readers.specs.declared.IdRead.{IdRead}
 use Rattle.readers.specs.declared.IdRead.the-variants as I
 use Rattle.readers.proofs.Texts.{next-drop}
@@ -126,14 +126,14 @@ module _ (s : List ℕ) (a : ℕ) (inside : a < length s) where
 
   pub behind-brace : getD s a 0 ≡ byte "{" → (r : StepRead) → ReadsKeyStep s (a + 1) r → ReadsStep s a r
   unfolding stepWords
-  behind-brace h (S.Step hi lo len n) k = record { step = key (k .step); took = key-step h (k .step) n (k .took); words = k .words }
+  behind-brace h (S.Step w n) k = record { step = key (k .step); took = key-step h (k .step) n (k .took); words = k .words }
   behind-brace h S.End k = absurd k
   behind-brace h S.Bad k = (no-key-step h k, unfinished (λ e. omega arith))
 
   pub behind-bracket : getD s a 0 ≡ byte "[" → (r : StepRead) → ReadsListStep s (a + 1) r → ReadsStep s a r
   unfolding stepWords
-  behind-bracket h (S.Step hi lo len n) (isCaret j w) = record { step = caret; took = caret-step h n j; words = w }
-  behind-bracket h (S.Step hi lo len n) (isElement e c j w) = record { step = element e; took = element-step h c e n j; words = w }
+  behind-bracket h (S.Step k n) (isCaret j w) = record { step = caret; took = caret-step h n j; words = w }
+  behind-bracket h (S.Step k n) (isElement e c j w) = record { step = element e; took = element-step h c e n j; words = w }
   behind-bracket h S.End k = absurd k
   behind-bracket h S.Bad k = (no-list-step h (k .0) (k .1), unfinished (λ e. omega arith))
 
@@ -160,23 +160,13 @@ finished-digit (c ∷ t) f = ap isDigit f
 
 -- What the readers of keys, ids and steps said, where their answers are known.
 
-pub key-words : (s : List ℕ) (a : ℕ) (r : KeyRead) → r .ok ≡ true → ReadsKey s a r → ReadsKeyStep s a
-    (S.Step (r .hi) (r .lo) (r .len) (r .next))
-key-words s a r e k =
-    let h = subst (λ b. either b (KeyTook s a r) (Never keys s a)) e k in
-    record { step = h .key; took = h .took; words = h .words }
-
-pub key-none : (s : List ℕ) (a : ℕ) (r : KeyRead) → r .ok ≡ false → ReadsKey s a r → Never keys s a
-key-none s a r e k = subst (λ b. either b (KeyTook s a r) (Never keys s a)) e k
-
 pub id-took : {s : List ℕ} {a i n : ℕ} (r : IdRead) → r ≡ I.Found i n → ReadsId s a r → Took ids s a i n
 id-took {s} {a} r e k = subst (ReadsId s a) e k
 
 pub id-none : {s : List ℕ} {a : ℕ} (r : IdRead) → r ≡ I.Bad → ReadsId s a r → Never ids s a
 id-none {s} {a} r e k = subst (ReadsId s a) e k
 
-pub step-took : {s : List ℕ} {a hi lo len n : ℕ} (r : StepRead) → r ≡ S.Step hi lo len n → ReadsStep s a r → StepTook steps
-    stepWords s a hi lo len n
+pub step-took : {s : List ℕ} {a n : ℕ} {k : Key} (r : StepRead) → r ≡ S.Step k n → ReadsStep s a r → StepTook steps stepWords s a k n
 step-took {s} {a} r e k = subst (ReadsStep s a) e k
 
 pub step-end : (s : List ℕ) (a : ℕ) (r : StepRead) → r ≡ S.End → ReadsStep s a r → Finished (drop a s)

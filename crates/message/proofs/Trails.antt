@@ -13,7 +13,9 @@ use Rattle.decimal.proofs.Layouts.{no-first, no-second, both}
 use Rattle.readers.specs.Words.{keyWords}
 use Rattle.readers.specs.Reads.{keys, either}
 use Rattle.readers.specs.Hex.{KeyTook, ReadsKey}
+use Rattle.readers.specs.declared.Key.{Key}
 use Rattle.readers.specs.declared.KeyRead.{KeyRead}
+use Rattle.readers.specs.declared.KeyRead.the-variants as K
 use Rattle.message.specs.Means.{pad}
 use Rattle.message.specs.Steps.{Step, key, element, caret, stepText, allText}
 use Rattle.message.specs.Steps.{stepWords, allWords, ValidStep, MoreStep, steps, Finished}
@@ -237,8 +239,8 @@ pub record State (s : List ℕ) (a : ℕ) (ks : List ℕ) (last n i : ℕ) : Typ
   pub count : i ≡ suc (length xs)
   pub most : i ≤ 8
 
-key-took : (s : List ℕ) (a : ℕ) (r : KeyRead) → r .ok ≡ true → ReadsKey s a r → KeyTook s a r
-key-took s a r e k = subst (λ b. either b (KeyTook s a r) (Never keys s a)) e k
+pub key-took : {s : List ℕ} {a n : ℕ} {k : Key} (r : KeyRead) → r ≡ K.Found k n → ReadsKey s a r → KeyTook s a k n
+key-took {s} {a} r e k = subst (ReadsKey s a) e k
 
 after-key : (x : List ℕ) (ys : List Step) (t : List ℕ) → trails .Valid ys → Finished t → Stops (allText ys ++ t)
 unfolding allText stepText
@@ -247,21 +249,20 @@ after-key x (key j ∷ ys) t v f = refl
 after-key x (element e ∷ ys) t v f = refl
 after-key x (caret ∷ ys) t v f = refl
 
-pub no-top : (s : List ℕ) (a : ℕ) (r : KeyRead) → r .ok ≡ false → ReadsKey s a r → Never ways s a
-no-top s a r e k = no-first keys trails after-key s a (subst (λ b. either b (KeyTook s a r) (Never keys s a)) e k)
+pub no-top : (s : List ℕ) (a : ℕ) (r : KeyRead) → r ≡ K.Bad → ReadsKey s a r → Never ways s a
+no-top s a r e k = no-first keys trails after-key s a (subst (ReadsKey s a) e k)
 
-pub start : (s : List ℕ) (a : ℕ) (r : KeyRead) → r .ok ≡ true → ReadsKey s a r
-    → State s a (set (set (set (pad 24 []) 0 (r .hi)) 1 (r .lo)) 2 (r .len)) (r .len) (r .next) 1
+pub start : (s : List ℕ) (a : ℕ) (k : Key) (n : ℕ) → KeyTook s a k n
+    → State s a (set (set (set (pad 24 []) 0 (k .hi)) 1 (k .lo)) 2 (k .len)) (k .len) n 1
 unfolding allWords pad
-start s a r e k =
-    let h = key-took s a r e k in
-    let l : r .len ≡ length (h .key) = ap (λ w. getD w 2 0) (h .words) in
+start s a k n h =
+    let l : k .len ≡ length (h .key) = ap (λ w. getD w 2 0) (h .words) in
     record {
       top = h .key;
-      from = r .next;
+      from = n;
       first = h .took;
       xs = [];
-      passed = none-yet s (r .next);
+      passed = none-yet s n;
       tail = atKey (omega (arith, h .took .valid .short)) tt (λ i. i);
       words = ap (λ w. pad 24 (w ++ [])) (h .words);
       count = refl;
@@ -288,7 +289,7 @@ module _ (s : List ℕ) (a : ℕ) (ks : List ℕ) (last n i : ℕ) (k : State s 
   pub bad : Never steps s n → (Finished (drop n s) → ⊥) → Never ways s a
   bad h f = behind (stuck s (k .from) (k .xs) n (k .passed) h f)
 
-  module _ (hi lo len m : ℕ) (j : StepTook steps stepWords s n hi lo len m) where
+  module _ (f : Key) (m : ℕ) (j : StepTook steps stepWords s n f m) where
     pub closed : last ≡ 18 → Never ways s a
     closed e = go (k .tail)
       where
@@ -300,7 +301,7 @@ module _ (s : List ℕ) (a : ℕ) (ks : List ℕ) (last n i : ℕ) (k : State s 
     pub ninth : i ≡ 8 → Never ways s a
     ninth e = behind (too-many s (k .from) (k .xs) n (k .passed) (j .step) m (j .took) (omega (arith, k .count)))
 
-    pub more : (last ≡ 18 → ⊥) → (i ≡ 8 → ⊥) → State s a (set (set (set ks (3 * i) hi) (3 * i + 1) lo) (3 * i + 2) len) len m (i + 1)
+    pub more : (last ≡ 18 → ⊥) → (i ≡ 8 → ⊥) → State s a (set (set (set ks (3 * i) (f .hi)) (3 * i + 1) (f .lo)) (3 * i + 2) (f .len)) (f .len) m (i + 1)
     unfolding allWords
     more c e =
         let x = j .step in
@@ -313,10 +314,10 @@ module _ (s : List ℕ) (a : ℕ) (ks : List ℕ) (last n i : ℕ) (k : State s 
           first = k .first;
           xs = k .xs ++ (x ∷ []);
           passed = one-more s (k .from) (k .xs) n (k .passed) x m (j .took);
-          tail = tail-more last (k .xs) (k .tail) c x (j .took .valid) hi lo len (j .words);
+          tail = tail-more last (k .xs) (k .tail) c x (j .took .valid) (f .hi) (f .lo) (f .len) (j .words);
           words =
-              ap (λ v. set (set (set v (3 * i) hi) (3 * i + 1) lo) (3 * i + 2) len) (k .words)
-              ∙ (three-more w i hi lo len l (omega (arith, k .most))
+              ap (λ v. set (set (set v (3 * i) (f .hi)) (3 * i + 1) (f .lo)) (3 * i + 2) (f .len)) (k .words)
+              ∙ (three-more w i (f .hi) (f .lo) (f .len) l (omega (arith, k .most))
               ∙ ap (pad 24)
               (ap (λ v. w ++ v) (j .words ∙ sym (append-nil (stepWords x)))
               ∙ (append-assoc (keyWords (k .top)) (allWords (k .xs)) (stepWords x ++ []) ∙ ap (λ v. keyWords (k .top) ++ v)

@@ -13,7 +13,9 @@ use Rattle.meaning.specs.Text.{assignedText}
 use Rattle.decimal.specs.Take.{Layout, Took, Never, fixed, then}
 use Rattle.readers.specs.Words.{keyWords, wordsOf, valueWords}
 use Rattle.readers.specs.Reads.{keys, ids, counters, either}
+use Rattle.readers.specs.Hex.{wordsIn}
 use Rattle.readers.specs.Given.{givenOf, GivenTook}
+use Rattle.readers.specs.declared.Key.{Key}
 use Rattle.readers.specs.declared.GivenRead.{GivenRead}
 use Rattle.message.specs.Means.{elementWords, headWords, pad}
 use Rattle.message.specs.Steps.{Step, key, element, caret, steps, stepWords, allWords, Finished, Open, InList, trails}
@@ -27,29 +29,29 @@ use Rattle.message.specs.declared.Deed.{Deed}
 use Rattle.message.specs.declared.Deed.the-variants as D
 
 -- a thing was taken, and these are its three words
-pub record StepTook {X : Type 0} (L : Layout X) (of : X → List ℕ) (s : List ℕ) (a hi lo len n : ℕ) : Type 0 where
+pub record StepTook {X : Type 0} (L : Layout X) (of : X → List ℕ) (s : List ℕ) (a : ℕ) (k : Key) (n : ℕ) : Type 0 where
   pub step : X
   pub took : Took L s a step n
-  pub words : hi ∷ lo ∷ len ∷ [] ≡ of step
+  pub words : wordsIn k ≡ of step
 
 abbrev pub ReadsKeyStep : List ℕ → ℕ → StepRead → Type 0
-ReadsKeyStep s a (S.Step hi lo len n) = StepTook keys keyWords s a hi lo len n
+ReadsKeyStep s a (S.Step k n) = StepTook keys keyWords s a k n
 ReadsKeyStep s a S.End = ⊥
 ReadsKeyStep s a S.Bad = Never keys s a
 
 -- behind `[`: `^`, or an element id
-pub data Listed (s : List ℕ) (a hi lo len n : ℕ) : Type 0 where
-  isCaret : Took (fixed (ascii "^")) s a tt n → hi ∷ lo ∷ len ∷ [] ≡ headWords → Listed s a hi lo len n
-  isElement : (e : ℕ) → Never (fixed (ascii "^")) s a → Took ids s a e n → hi ∷ lo ∷ len ∷ [] ≡ elementWords e → Listed s a hi lo len n
+pub data Listed (s : List ℕ) (a : ℕ) (k : Key) (n : ℕ) : Type 0 where
+  isCaret : Took (fixed (ascii "^")) s a tt n → wordsIn k ≡ headWords → Listed s a k n
+  isElement : (e : ℕ) → Never (fixed (ascii "^")) s a → Took ids s a e n → wordsIn k ≡ elementWords e → Listed s a k n
 
 abbrev pub ReadsListStep : List ℕ → ℕ → StepRead → Type 0
-ReadsListStep s a (S.Step hi lo len n) = Listed s a hi lo len n
+ReadsListStep s a (S.Step k n) = Listed s a k n
 ReadsListStep s a S.End = ⊥
 ReadsListStep s a S.Bad = Never (fixed (ascii "^")) s a × Never ids s a
 
 -- a step, the end of the way, or neither
 abbrev pub ReadsStep : List ℕ → ℕ → StepRead → Type 0
-ReadsStep s a (S.Step hi lo len n) = StepTook steps stepWords s a hi lo len n
+ReadsStep s a (S.Step k n) = StepTook steps stepWords s a k n
 ReadsStep s a S.End = Finished (drop a s)
 ReadsStep s a S.Bad = Never steps s a × (Finished (drop a s) → ⊥)
 

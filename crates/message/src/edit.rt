@@ -4,6 +4,8 @@ use crate::DeedRead;
 use crate::EditRead;
 use crate::Way;
 use crate::ways::take_way;
+use readers::CARET;
+use readers::ELEMENT;
 use readers::GivenRead;
 use readers::Past;
 ghost use mathlib.Core.Path.{_≡_};
@@ -90,9 +92,9 @@ fn may(last: u64, deed: Deed) -> bool
     ensures { λ r. ⌜ r ≡ suits last deed ⌝ }
 {
     match deed {
-        Deed::Assign(_) => last != 18,
-        Deed::Insert(_) => 17 <= last,
-        Deed::Delete => last != 18,
+        Deed::Assign(_) => last != CARET,
+        Deed::Insert(_) => ELEMENT <= last,
+        Deed::Delete => last != CARET,
     }
 }
 

@@ -8,6 +8,7 @@ pub use edit::take_edit;
 use meaning::Counters;
 use readers::Given;
 use readers::IdRead;
+use readers::Key;
 use readers::Past;
 pub use ways::take_element_way;
 pub use ways::take_keys_way;
@@ -39,14 +40,9 @@ pub struct Operation {
     pub words: [u64; 4],
 }
 
-// A step of a way as its three words; or the way ends here.
+// A step of a way; or the way ends here.
 enum StepRead {
-    Step {
-        hi: u64,
-        lo: u64,
-        len: u64,
-        next: usize,
-    },
+    Step { key: Key, next: usize },
     End,
     Bad,
 }

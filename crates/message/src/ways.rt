@@ -3,7 +3,11 @@ use crate::PlaceRead;
 use crate::StepRead;
 use crate::Way;
 use crate::WayRead;
+use readers::CARET;
+use readers::ELEMENT;
 use readers::IdRead;
+use readers::Key;
+use readers::KeyRead;
 use readers::Past;
 ghost use mathlib.Core.Path.{_≡_};
 ghost use mathlib.Core.Bool.{false};
@@ -15,15 +19,9 @@ ghost use Rattle.message.specs.Promises.{noPlace, ReadsPlaceWay, ReadsKe
 fn take_key_step(s: &[u8], a: usize) -> StepRead
     ensures { λ r. ⌜ ReadsKeyStep (now (s .entry)) a r ⌝ }
 {
-    let k = readers::take_key(s, a);
-    if !k.ok {
-        return StepRead::Bad;
-    }
-    StepRead::Step {
-        hi: k.hi,
-        lo: k.lo,
-        len: k.len,
-        next: k.next,
+    match readers::take_key(s, a) {
+        KeyRead::Found { key, next } => StepRead::Step { key, next },
+        KeyRead::Bad => StepRead::Bad,
     }
 }
 
@@ -36,19 +34,19 @@ fn take_list_step(s: &[u8], a: usize, powers: &[u64; 20]) -> StepRead
         let IdRead::Found { id, next } = readers::take_id(s, a, powers) else {
             return StepRead::Bad;
         };
-        return StepRead::Step {
+        let key = Key {
             hi: id,
             lo: 0,
-            len: 17,
-            next,
+            len: ELEMENT,
         };
+        return StepRead::Step { key, next };
     };
-    StepRead::Step {
+    let key = Key {
         hi: 0,
         lo: 0,
-        len: 18,
-        next,
-    }
+        len: CARET,
+    };
+    StepRead::Step { key, next }
 }
 
 // A step of a way, or its end.
@@ -93,15 +91,18 @@ pub fn take_way(s: &[u8], a: usize, powers: &[u64; 20]) -> WayRead
     ensures { λ r. ⌜ ReadsWay (now (s .entry)) a r ⌝ }
 {
     let mut keys = [0u64; 24];
-    let k = readers::take_key(s, a);
-    if !k.ok {
+    let KeyRead::Found {
+        key: k,
+        next: behind,
+    } = readers::take_key(s, a)
+    else {
         return no_way();
-    }
+    };
     keys[0] = k.hi;
     keys[1] = k.lo;
     keys[2] = k.len;
     let mut last = k.len;
-    let mut n = k.next;
+    let mut n = behind;
     let mut i: usize = 1;
     while i <= 8 {
         let x = take_step(s, n, powers);
@@ -113,17 +114,17 @@ pub fn take_way(s: &[u8], a: usize, powers: &[u64; 20]) -> WayRead
                 next: n,
             },
             StepRead::Bad => return no_way(),
-            StepRead::Step { hi, lo, len, next } => {
-                if last == 18 {
+            StepRead::Step { key, next } => {
+                if last == CARET {
                     return no_way();
                 }
                 if i == 8 {
                     return no_way();
                 }
-                keys[3 * i] = hi;
-                keys[3 * i + 1] = lo;
-                keys[3 * i + 2] = len;
-                last = len;
+                keys[3 * i] = key.hi;
+                keys[3 * i + 1] = key.lo;
+                keys[3 * i + 2] = key.len;
+                last = key.len;
                 n = next;
                 i += 1;
             }
@@ -156,7 +157,7 @@ pub fn take_place_way(s: &[u8]) -> PlaceRead
     if w.next < s.len() {
         return no_place();
     }
-    if w.last == 18 {
+    if w.last == CARET {
         return no_place();
     }
     let way = w.way;

@@ -12,10 +12,10 @@ use Rattle.decimal.specs.Take.{Never}
 use Rattle.decimal.proofs.Layouts.{Alike, none-alike, took-alike}
 use Rattle.readers.specs.Words.{weight, pack, wordsOf}
 use Rattle.readers.specs.Reads.{keys, strings, either}
-use Rattle.readers.specs.Hex.{Hexed, Unhexed, WordTook, ReadsWord, hexes, HexTook, ReadsHex, ReadsString, ReadsKey}
+use Rattle.readers.specs.Hex.{Hexed, Unhexed, WordTook, ReadsWord, hexes, HexTook, ReadsHex, ReadsString, KeyTook}
 use Rattle.readers.specs.declared.Word.{Word}
+use Rattle.readers.specs.declared.Word.the-variants as W
 use Rattle.readers.specs.declared.StringRead.{StringRead}
-use Rattle.readers.specs.declared.KeyRead.{KeyRead}
 use Rattle.readers.specs.Order.{pack-small}
 use Rattle.readers.proofs.Packs.{pack-more, words-more}
 use Rattle.readers.proofs.Hexes.{none-yet, byte-more, join, all, unhexed}
@@ -76,7 +76,7 @@ module _ (s : List ℕ) (a word len w n : ℕ) (k : Part s a word len w n) (h : 
         }
 
 pub a-word : (s : List ℕ) (a word len w n : ℕ) → Part s a word len w n → (len < 8 → Stops (drop n s))
-    → WordTook s a (record { ok = true; word = word; len = len; next = n })
+    → WordTook s a word len n
 a-word s a word len w n k st =
     record { key = k .key; hexed = k .hexed; long = k .long; most = k .most; word = k .word; stops = st }
 
@@ -92,41 +92,41 @@ pub parts-start : (s : List ℕ) (a : ℕ) → Parts s a (0 ∷ 0 ∷ 0 ∷ 0 �
 unfolding wordsOf pack
 parts-start s a = record { key = []; hexed = none-yet s a; long = refl; full = refl; words = refl }
 
-pub word-took : (s : List ℕ) (a : ℕ) (w : Word) → w .ok ≡ true → ReadsWord s a w → WordTook s a w
-word-took s a w e r = subst (λ b. either b (WordTook s a w) (Unhexed s a)) e r
+pub word-took : {s : List ℕ} {a word some next : ℕ} (w : Word) → w ≡ W.Bytes word some next → ReadsWord s a w → WordTook s a word some next
+word-took {s} {a} w e r = subst (ReadsWord s a) e r
 
-pub word-none : (s : List ℕ) (a : ℕ) (w : Word) → w .ok ≡ false → ReadsWord s a w → Unhexed s a
-word-none s a w e r = subst (λ b. either b (WordTook s a w) (Unhexed s a)) e r
+pub word-none : {s : List ℕ} {a : ℕ} (w : Word) → w ≡ W.Bad → ReadsWord s a w → Unhexed s a
+word-none {s} {a} w e r = subst (ReadsWord s a) e r
 
 module _ (count : ℕ) (s : List ℕ) (a : ℕ) (words : List ℕ) (len n i : ℕ) (k : Parts s a words len n i) (c : count ≤ 4)
-    (h : i < count) (w : Word) where
+    (h : i < count) where
   pub no-word : Unhexed s n → Never (hexes (8 * count)) s a
   no-word u = unhexed (8 * count) s a (k .key) n (k .hexed) u
 
-  module _ (t : WordTook s n w) where
-    together : Hexed s a (k .key ++ t .key) (w .next)
-    together = join s a (k .key) n (t .key) (w .next) (k .hexed) (t .hexed)
+  module _ (word some next : ℕ) (t : WordTook s n word some next) where
+    together : Hexed s a (k .key ++ t .key) next
+    together = join s a (k .key) n (t .key) next (k .hexed) (t .hexed)
 
-    length-is : length (k .key ++ t .key) ≡ len + w .len
+    length-is : length (k .key ++ t .key) ≡ len + some
     length-is = let e = length-append (k .key) (t .key) in omega (arith, k .long, t .long)
 
-    words-are : set words i (w .word) ≡ wordsOf 4 (k .key ++ t .key)
+    words-are : set words i word ≡ wordsOf 4 (k .key ++ t .key)
     words-are =
-        ap (λ l. set l i (w .word)) (k .words)
+        ap (λ l. set l i word) (k .words)
         ∙ (ap (λ x. set (wordsOf 4 (k .key)) i x) (t .word)
         ∙ sym (words-more 4 i (k .key) (t .key) (omega arith) (k .long ∙ k .full) (omega (arith, t .long, t .most))))
 
-    pub last-word : w .len < 8
-        → HexTook (hexes (8 * count)) s a (record { ok = true; words = set words i (w .word); len = len + w .len; next = w .next })
+    pub last-word : some < 8
+        → HexTook (hexes (8 * count)) s a (record { ok = true; words = set words i word; len = len + some; next = next })
     last-word l =
         record {
           bytes = k .key ++ t .key;
-          took = all (8 * count) s a (k .key ++ t .key) (w .next) together (omega (arith, length-is, k .full, t .most)) (t .stops l);
+          took = all (8 * count) s a (k .key ++ t .key) next together (omega (arith, length-is, k .full, t .most)) (t .stops l);
           words = words-are;
           long = sym length-is;
         }
 
-    pub parts-more : 8 ≤ w .len → Parts s a (set words i (w .word)) (len + w .len) (w .next) (i + 1)
+    pub parts-more : 8 ≤ some → Parts s a (set words i word) (len + some) next (i + 1)
     parts-more l =
         record { key = k .key ++ t .key; hexed = together; long = length-is; full = omega (arith, k .full, t .most); words = words-are }
 
@@ -184,20 +184,19 @@ string-read s a r = go (r .ok)
         }
     go false k = none-alike strings (hexes 32) a-string s a k
 
-pub key-read : (s : List ℕ) (a : ℕ) (r : StringRead) → ReadsHex 2 s a r
-    → ReadsKey s a (record { ok = r .ok; hi = getD (r .words) 0 0; lo = getD (r .words) 1 0; len = r .len; next = r .next })
+pub key-read : (s : List ℕ) (a : ℕ) (r : StringRead) → r .ok ≡ true → ReadsHex 2 s a r
+    → KeyTook s a (record { hi = getD (r .words) 0 0; lo = getD (r .words) 1 0; len = r .len }) (r .next)
 unfolding a-key wordsOf
-key-read s a r = go (r .ok)
-  where
-    answer : Bool → KeyRead
-    answer b = record { ok = b; hi = getD (r .words) 0 0; lo = getD (r .words) 1 0; len = r .len; next = r .next }
+key-read s a r e h =
+    let k = subst (λ b. either b (HexTook (hexes (8 * 2)) s a r) (Never (hexes (8 * 2)) s a)) e h in
+    record {
+      key = k .bytes;
+      took = took-alike keys (hexes 16) a-key s a (k .bytes) (r .next) (k .took);
+      words =
+          ap (λ w. getD w 0 0 ∷ getD w 1 0 ∷ r .len ∷ []) (k .words)
+          ∙ ap (λ l. pack 8 (k .bytes) ∷ pack 8 (drop 8 (k .bytes)) ∷ l ∷ []) (k .long);
+    }
 
-    go : (b : Bool) → either b (HexTook (hexes (8 * 2)) s a r) (Never (hexes (8 * 2)) s a) → ReadsKey s a (answer b)
-    go true k =
-        record {
-          key = k .bytes;
-          took = took-alike keys (hexes 16) a-key s a (k .bytes) (r .next) (k .took);
-          words = ap (λ w. getD w 0 0 ∷ getD w 1 0 ∷ r .len ∷ []) (k .words) ∙ ap
-              (λ l. pack 8 (k .bytes) ∷ pack 8 (drop 8 (k .bytes)) ∷ l ∷ []) (k .long);
-        }
-    go false k = none-alike keys (hexes 16) a-key s a k
+pub key-none : (s : List ℕ) (a : ℕ) (r : StringRead) → r .ok ≡ false → ReadsHex 2 s a r → Never keys s a
+key-none s a r e h =
+    none-alike keys (hexes 16) a-key s a (subst (λ b. either b (HexTook (hexes (8 * 2)) s a r) (Never (hexes (8 * 2)) s a)) e h)

@@ -12,8 +12,11 @@ use Rattle.decimal.specs.Take.{Layout, Took, Never}
 use Rattle.readers.specs.Words.{pack, wordsOf, keyWords}
 use Rattle.readers.specs.Reads.{keys, strings, either}
 use Rattle.readers.specs.declared.Word.{Word}
+use Rattle.readers.specs.declared.Word.the-variants as W
+use Rattle.readers.specs.declared.Key.{Key}
 use Rattle.readers.specs.declared.StringRead.{StringRead}
 use Rattle.readers.specs.declared.KeyRead.{KeyRead}
+use Rattle.readers.specs.declared.KeyRead.the-variants as K
 
 -- the value r of the hex digit c, or 16 and c is none
 pub record ReadsDigit (c r : ℕ) : Type 0 where
@@ -30,20 +33,21 @@ pub record Hexed (s : List ℕ) (a : ℕ) (k : List ℕ) (n : ℕ) : Type 0 wher
       → (r : List ℕ) × (b ≡ k ++ r) × (hex r ++ t ≡ drop n s)
 
 -- at most eight bytes were taken, as a word: eight, or all that stand there
-pub record WordTook (s : List ℕ) (a : ℕ) (w : Word) : Type 0 where
+pub record WordTook (s : List ℕ) (a w len next : ℕ) : Type 0 where
   pub key : List ℕ
-  pub hexed : Hexed s a key (w .next)
-  pub long : length key ≡ w .len
-  pub most : w .len ≤ 8
-  pub word : w .word ≡ pack 8 key
-  pub stops : w .len < 8 → Stops (drop (w .next) s)
+  pub hexed : Hexed s a key next
+  pub long : length key ≡ len
+  pub most : len ≤ 8
+  pub word : w ≡ pack 8 key
+  pub stops : len < 8 → Stops (drop next s)
 
 -- no bytes stand there: a digit lacks its other half
 pub record Unhexed (s : List ℕ) (a : ℕ) : Type 0 where
   pub not : (b t : List ℕ) → Bytes b → Stops t → drop a s ≡ hex b ++ t → ⊥
 
 abbrev pub ReadsWord : List ℕ → ℕ → Word → Type 0
-ReadsWord s a w = either (w .ok) (WordTook s a w) (Unhexed s a)
+ReadsWord s a (W.Bytes word len next) = WordTook s a word len next
+ReadsWord s a W.Bad = Unhexed s a
 
 -- at most m bytes
 abbrev pub hexes : ℕ → Layout (List ℕ)
@@ -62,11 +66,16 @@ ReadsHex count s a r = either (r .ok) (HexTook (hexes (8 * count)) s a r) (Never
 abbrev pub ReadsString : List ℕ → ℕ → StringRead → Type 0
 ReadsString s a r = either (r .ok) (HexTook strings s a r) (Never strings s a)
 
+-- the words of a key that the code holds
+abbrev pub wordsIn : Key → List ℕ
+wordsIn k = k .hi ∷ k .lo ∷ k .len ∷ []
+
 -- a key as three words
-pub record KeyTook (s : List ℕ) (a : ℕ) (r : KeyRead) : Type 0 where
+pub record KeyTook (s : List ℕ) (a : ℕ) (k : Key) (next : ℕ) : Type 0 where
   pub key : List ℕ
-  pub took : Took keys s a key (r .next)
-  pub words : r .hi ∷ r .lo ∷ r .len ∷ [] ≡ keyWords key
+  pub took : Took keys s a key next
+  pub words : wordsIn k ≡ keyWords key
 
 abbrev pub ReadsKey : List ℕ → ℕ → KeyRead → Type 0
-ReadsKey s a r = either (r .ok) (KeyTook s a r) (Never keys s a)
+ReadsKey s a (K.Found k next) = KeyTook s a k next
+ReadsKey s a K.Bad = Never keys s a

@@ -1,4 +1,5 @@
 // Bytes in hex, as words: keys and strings.
+use crate::Key;
 use crate::KeyRead;
 use crate::StringRead;
 use crate::Word;
@@ -34,51 +35,26 @@ fn take_word(s: &[u8], a: usize) -> Word
     let mut n = a;
     while len < 8 {
         if s.len() <= n {
-            return Word {
-                ok: true,
-                word,
-                len,
-                next: n,
-            };
+            return Word::Bytes { word, len, next: n };
         }
         let h = nibble(s[n]);
         if 16 <= h {
-            return Word {
-                ok: true,
-                word,
-                len,
-                next: n,
-            };
+            return Word::Bytes { word, len, next: n };
         }
         let m = n + 1;
         if s.len() <= m {
-            return Word {
-                ok: false,
-                word: 0,
-                len: 0,
-                next: 0,
-            };
+            return Word::Bad;
         }
         let l = nibble(s[m]);
         if 16 <= l {
-            return Word {
-                ok: false,
-                word: 0,
-                len: 0,
-                next: 0,
-            };
+            return Word::Bad;
         }
         word += (h * 16 + l) * weight;
         weight = weight / 256;
         len += 1;
         n = m + 1;
     }
-    Word {
-        ok: true,
-        word,
-        len,
-        next: n,
-    }
+    Word::Bytes { word, len, next: n }
 }
 
 // All bytes in hex that stand at a place, at most eight for each of `count` words.
@@ -91,19 +67,23 @@ fn take_hex(s: &[u8], a: usize, count: usize) -> StringRead
     let mut n = a;
     let mut i: usize = 0;
     while i < count {
-        let w = take_word(s, n);
-        if !w.ok {
+        let Word::Bytes {
+            word,
+            len: some,
+            next,
+        } = take_word(s, n)
+        else {
             return StringRead {
                 ok: false,
                 words: [0u64; 4],
                 len: 0,
                 next: 0,
             };
-        }
-        words[i] = w.word;
-        len += w.len;
-        n = w.next;
-        if w.len < 8 {
+        };
+        words[i] = word;
+        len += some;
+        n = next;
+        if some < 8 {
             return StringRead {
                 ok: true,
                 words,
@@ -143,11 +123,13 @@ pub fn take_key(s: &[u8], a: usize) -> KeyRead
     ensures { λ r. ⌜ ReadsKey (now (s .entry)) a r ⌝ }
 {
     let r = take_hex(s, a, 2);
-    KeyRead {
-        ok: r.ok,
+    if !r.ok {
+        return KeyRead::Bad;
+    }
+    let key = Key {
         hi: r.words[0],
         lo: r.words[1],
         len: r.len,
-        next: r.next,
-    }
+    };
+    KeyRead::Found { key, next: r.next }
 }

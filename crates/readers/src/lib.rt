@@ -43,11 +43,9 @@ pub enum IntegerRead {
 }
 
 // Up to eight bytes as a word, and how many they are.
-struct Word {
-    ok: bool,
-    word: u64,
-    len: u64,
-    next: usize,
+enum Word {
+    Bytes { word: u64, len: u64, next: usize },
+    Bad,
 }
 
 // Up to 32 bytes as four words: a string, as it is read.
@@ -58,13 +56,21 @@ pub struct StringRead {
     pub next: usize,
 }
 
-// A key as its three words: the first eight bytes, the next eight, the length.
-pub struct KeyRead {
-    pub ok: bool,
+// A key as three words: its first eight bytes, its next eight, its length. Of an element id: the id, 0 and `ELEMENT`; of `^`: 0, 0 and
+// `CARET`.
+pub struct Key {
     pub hi: u64,
     pub lo: u64,
     pub len: u64,
-    pub next: usize,
+}
+
+pub const ELEMENT: u64 = 17;
+
+pub const CARET: u64 = 18;
+
+pub enum KeyRead {
+    Found { key: Key, next: usize },
+    Bad,
 }
 
 // What is assigned: a plain value, or an empty map or list. Neg(m) is -(m + 1); a string has its length here, and its words beside it.

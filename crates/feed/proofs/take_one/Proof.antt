@@ -30,11 +30,10 @@ part-receive-end c =
 
 returns : tie.Need-returns
 returns c =
-    let at-receive = c .before .before .before .before .before .before .before .before .before .before .before in
-    let at-next = at-receive .before .before .before .before .before .before .before .before in
+    let at-next = c .before .before .before .before .before .before .before .before .before in
     let at-next-piece = at-next .before .before in
     one-message _ (is-message _ (at-next .next .given .1) (at-next-piece .next-piece .ensures .0))
-    (sym (at-next-piece .next-piece .ensures .1) ∙ at-next .next .given .1) (at-receive .receive .ensures)
+    (sym (at-next-piece .next-piece .ensures .1) ∙ at-next .next .given .1) (c .before .receive .ensures)
 
 returns-2 : tie.Need-returns-2
 returns-2 c =
@@ -58,11 +57,6 @@ take-one-spec =
     part-receive-start
     part-receive-end
     (λ c κs. search needs)
-    (λ c. search needs)
-    (λ c. search needs)
-    (λ c. search needs)
-    (λ c. search needs)
-    (λ c. search needs)
     (λ c. search needs)
     (λ c. search needs)
     returns

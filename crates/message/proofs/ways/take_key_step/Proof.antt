@@ -1,15 +1,23 @@
 -- `message::ways::take_key_step` meets its contract.
 -- Assumes nothing.
-use borrow.Author.Tests.{not-true, not-false}
-use Rattle.message.proofs.Steps.{key-words, key-none}
+use mathlib.Core.Path.{subst}
+use Rattle.readers.specs.Hex.{ReadsKey}
+use Rattle.message.proofs.Trails.{key-took}
+use borrow.Author.Needs.{needs}
 use Rattle.message.proofs.ways.take_key_step.Statement.{statement}
 use Rattle.message.proofs.ways.take_key_step.Tie as tie
 
 returns : tie.Need-returns
-returns c = key-none _ _ (c .before .before .take-key .result) (not-true _ (c .if1 .taken)) (c .before .before .take-key .ensures)
-
-returns-2 : tie.Need-returns-2
-returns-2 c = key-words _ _ (c .before .before .take-key .result) (not-false _ (c .if1 .left)) (c .before .before .take-key .ensures)
+returns c =
+    let h = key-took _ (c .before .key .given .1) (c .before .before .before .take-key .ensures) in
+    record { step = h .key; took = h .took; words = h .words }
 
 pub take-key-step-spec : {M : Type 1} → statement M
-take-key-step-spec = tie.close (tie.spec (λ c κs. tt) returns returns-2)
+take-key-step-spec =
+    tie.close
+    (tie.spec
+    (λ c κs. search needs)
+    (λ c. search needs)
+    (λ c. search needs)
+    returns
+    (λ c. subst (ReadsKey _ _) (c .enum-told .given .1) (c .before .before .take-key .ensures)))

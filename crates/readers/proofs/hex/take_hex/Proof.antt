@@ -2,7 +2,6 @@
 -- Assumes nothing.
 use Prim.Native.Nat.{_-_, _≤_}
 use native.Mathlib.Omega.{arith}
-use borrow.Author.Tests.{not-true, not-false}
 use Rattle.readers.proofs.Hexes.{stops-at, stops-end, too-many}
 use Rattle.readers.proofs.Taking.{Parts, parts-start, word-took, word-none, no-word, last-word, parts-more, filled}
 use borrow.Author.Needs.{needs}
@@ -22,8 +21,7 @@ returns c =
     let at-loop = at-loop-test .before in
     let at-start = at-loop .before .before in
     no-word (at-start .args .count) _ _ _ _ _ _ (at-loop .loop .inv .0) (at-start .pre) (at-loop-test .loop-test .taken)
-    (at-take-word .take-word .result) (word-none _ _ (at-take-word .take-word .result) (not-true _ (c .if1 .taken))
-    (at-take-word .take-word .ensures))
+    (word-none _ (c .enum-told .given .1) (at-take-word .take-word .ensures))
 
 add-len : tie.Need-add-len Inv-loop μ-loop
 add-len c =
@@ -32,50 +30,45 @@ add-len c =
     omega (
       arith,
       at-loop .loop .inv .0 .full,
-      word-took _ _ (at-take-word .take-word .result) (not-false _ (c .before .if1 .left))
-          (at-take-word .take-word .ensures) .most,
+      word-took _ (c .before .word .given .1) (at-take-word .take-word .ensures) .most,
     )
 
 returns-2 : tie.Need-returns-2 Inv-loop μ-loop
 returns-2 c =
-    let at-if1 = c .before .before .before in
-    let at-take-word = at-if1 .before .before in
+    let at-take-word = c .before .before .before .before in
     let at-loop-test = at-take-word .before in
     let at-loop = at-loop-test .before in
     let at-start = at-loop .before .before in
-    last-word (at-start .args .count) _ _ _ _ _ _ (at-loop .loop .inv .0) (at-start .pre) (at-loop-test .loop-test .taken)
-    (at-take-word .take-word .result) (word-took _ _ (at-take-word .take-word .result) (not-false _ (at-if1 .if1 .left))
-    (at-take-word .take-word .ensures)) (c .if2 .taken)
+    last-word (at-start .args .count) _ _ _ _ _ _ (at-loop .loop .inv .0) (at-start .pre) (at-loop-test .loop-test .taken) _ _ _
+    (word-took _ (c .before .before .word .given .1) (at-take-word .take-word .ensures)) (c .if1 .taken)
 
 loop-again : tie.Need-loop-again Inv-loop μ-loop
 loop-again c =
-    let at-if1 = c .before .before .before in
-    let at-take-word = at-if1 .before .before in
+    let at-take-word = c .before .before .before .before in
     let at-loop-test = at-take-word .before in
     let at-loop = at-loop-test .before in
     let at-start = at-loop .before .before in (
-      parts-more (at-start .args .count) _ _ _ _ _ _ (at-loop .loop .inv .0) (at-start .pre) (at-loop-test .loop-test .taken)
-          (at-take-word .take-word .result) (word-took _ _ (at-take-word .take-word .result) (not-false _ (at-if1 .if1 .left))
-          (at-take-word .take-word .ensures)) (c .if2 .left),
+      parts-more (at-start .args .count) _ _ _ _ _ _ (at-loop .loop .inv .0) (at-start .pre) (at-loop-test .loop-test .taken) _ _ _
+          (word-took _ (c .before .before .word .given .1) (at-take-word .take-word .ensures)) (c .if1 .left),
       omega arith,
     )
 
 returns-3 : tie.Need-returns-3 Inv-loop μ-loop
 returns-3 c =
-    let at-if3 = c .before .before .before in
-    let at-loop = at-if3 .before .before in
-    too-many _ _ (at-if3 .if3 .taken) _ (c .if4 .taken) (c .before .nibble .ensures .digit (c .if4 .taken)) _ _ _
+    let at-if2 = c .before .before .before in
+    let at-loop = at-if2 .before .before in
+    too-many _ _ (at-if2 .if2 .taken) _ (c .if3 .taken) (c .before .nibble .ensures .digit (c .if3 .taken)) _ _ _
     (at-loop .loop .inv .0 .hexed) (omega (arith, at-loop .loop .inv .0 .long, at-loop .loop .inv .0 .full, at-loop .loop .inv .1))
 
 returns-4 : tie.Need-returns-4 Inv-loop μ-loop
 returns-4 c =
-    let at-if3 = c .before .before .before in
-    let at-loop = at-if3 .before .before in
+    let at-if2 = c .before .before .before in
+    let at-loop = at-if2 .before .before in
     filled _ _ _ _ _ _ _ (at-loop .loop .inv .0) (at-loop .loop .inv .1)
-    (stops-at _ _ (at-if3 .if3 .taken) (c .before .nibble .ensures .other (c .if4 .left)))
+    (stops-at _ _ (at-if2 .if2 .taken) (c .before .nibble .ensures .other (c .if3 .left)))
 
 returns-5 : tie.Need-returns-5 Inv-loop μ-loop
-returns-5 c = filled _ _ _ _ _ _ _ (c .before .before .loop .inv .0) (c .before .before .loop .inv .1) (stops-end _ _ (c .if3 .left))
+returns-5 c = filled _ _ _ _ _ _ _ (c .before .before .loop .inv .0) (c .before .before .loop .inv .1) (stops-end _ _ (c .if2 .left))
 
 pub take-hex-spec : {M : Type 1} → statement M
 take-hex-spec =
@@ -85,6 +78,8 @@ take-hex-spec =
     μ-loop
     (λ c. (parts-start _ _, omega arith))
     (λ c κs. search needs)
+    (λ c. search needs)
+    (λ c. search needs)
     returns
     (λ c. search needs)
     (λ c. search needs)
