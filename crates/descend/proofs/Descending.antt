@@ -4,12 +4,12 @@ use Prim.Native.Nat.{ℕ, suc, _+_, _-_, _≤_, _<_}
 use native.Mathlib.Numerals.{add-one}
 use native.Mathlib.Omega.{arith}
 use mathlib.Core.Path.{_≡_, refl, sym, ap, _∙_, subst}
-use mathlib.Core.Bool.{Bool, true, false, true≢false}
+use mathlib.Core.Bool.{Bool, true, false}
 use mathlib.Core.List.{List, [], _∷_, _++_, append-assoc}
 use lib.Dec.{ltb}
 use lib.ListN.{length, getD, take, drop, length-drop}
 use lib.Seq.{take-all}
-use Rattle.meaning.specs.Ways.{Prev, head, after, Assigned, Way, assign, delete, insert, intoMap, intoList, steps}
+use Rattle.meaning.specs.Ways.{Prev, head, after, Way, assign, delete, insert, intoMap, intoList, steps}
 use Rattle.meaning.specs.Valid.{ValidWay}
 use Rattle.meaning.specs.Sheet.{Row}
 use Rattle.rows.specs.Blocks.{passed, rest, Block, join, deeper, runBlock}
@@ -23,7 +23,7 @@ use Rattle.tables.specs.Standing.{behind}
 use Rattle.tables.specs.Holding.{Holds, four}
 use Rattle.tables.specs.declared.Counts.{Counts}
 use Rattle.tables.specs.declared.Position.{Position}
-use Rattle.deeds.specs.Deeds.{isInsert, isDelete, mayMake, insertsHere}
+use Rattle.deeds.specs.Deeds.{isDelete, mayMake, insertsHere}
 use Rattle.act.specs.Acting.{blockAt, marksBy, withMarks, Spare, Does, Finishes, Inserts}
 use Rattle.act.specs.declared.Act.{Act}
 use Rattle.act.proofs.Gaps.{marks-all, marks-most, mark-further, mark-next, leaves-still}
@@ -33,7 +33,7 @@ use Rattle.words.specs.Gap.{Gap, Leaves}
 use Rattle.tables.specs.Seek.{Passes}
 use Rattle.tables.specs.Stands.{passes}
 use Rattle.tables.specs.Wants.{searchOf}
-use Rattle.descend.specs.Doing.{Arrives, Stays, Leads, Enters, Descends}
+use Rattle.descend.specs.Doing.{Arrives, Leads, Enters, Descends}
 use Rattle.descend.specs.declared.Child.{Child}
 
 empty-list : (xs : List ℕ) → length xs ≡ 0 → xs ≡ []

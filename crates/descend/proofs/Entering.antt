@@ -1,31 +1,22 @@
 -- A place that the way goes on from, in tables that hold rows.
 -- Assumes nothing.
-use Prim.Native.Nat.{ℕ, suc, _+_, _-_, _≤_, _<_}
+use Prim.Native.Nat.{ℕ, _+_, _-_}
 use native.Mathlib.Omega.{arith}
 use mathlib.Core.Path.{_≡_, refl, sym, ap, _∙_, subst}
-use mathlib.Core.Bool.{Bool, true, false, cond, not, true≢false, false≢true}
-use mathlib.Core.List.{List, [], _∷_, _++_, append-assoc}
-use lib.ListN.{length, length-append}
-use Rattle.meaning.specs.Sets.{put}
-use Rattle.meaning.specs.Members.{own}
-use Rattle.meaning.specs.Load.{marksIn, valuesIn}
+use mathlib.Core.Bool.{Bool, true, false, cond}
+use mathlib.Core.List.{List, _∷_, _++_}
 use Rattle.meaning.specs.Ways.{Way, assign, delete, insert, intoMap, intoList, deletes}
 use Rattle.meaning.specs.Sheet.{Row}
-use Rattle.theorems.specs.Members.{put-length}
-use Rattle.theorems.specs.Accepting.{marks-append, values-append}
-use Rattle.rows.specs.Blocks.{markRow, listRow, mapRow, passingRow}
-use Rattle.rows.specs.Counting.{Fresh}
+use Rattle.rows.specs.Blocks.{markRow, listRow, mapRow}
 use Rattle.rows.specs.Within.{ofList, enterRow}
 use Rattle.message.specs.Means.{deedOf}
-use Rattle.tables.specs.Standing.{behind}
-use Rattle.tables.specs.Holding.{Holds, four, flagRow}
-use Rattle.tables.specs.Words.{Tables}
+use Rattle.tables.specs.Holding.{four, flagRow}
 use Rattle.tables.specs.Parts.{at-behind}
 use Rattle.tables.specs.declared.Counts.{Counts}
 use Rattle.tables.specs.declared.Position.{Position}
 use Rattle.steps.specs.Steps.{Flags, Marks}
 use Rattle.deeds.specs.Deeds.{isDelete}
-use Rattle.act.specs.Acting.{Spare, Does}
+use Rattle.act.specs.Acting.{Does}
 use Rattle.act.specs.declared.Act.{Act}
 use Rattle.act.proofs.Gaps.{marks-none, marks-all}
 use Rattle.act.proofs.Counted.{row-does, marked-more, flag-marks, flag-values}

@@ -1,20 +1,16 @@
 -- Where a search leads, in tables that hold rows: to the row that is there, to one that is made, or nowhere.
 -- Assumes nothing.
-use Prim.Native.Nat.{ℕ, suc, _+_}
+use Prim.Native.Nat.{ℕ, _+_}
 use native.Mathlib.Omega.{arith}
 use mathlib.Core.Path.{_≡_, refl, sym, ap, _∙_, subst}
 use mathlib.Core.Bool.{Bool, true, false, true≢false}
 use mathlib.Core.List.{List, [], _∷_, _++_, append-assoc}
-use lib.ListN.{length, length-append}
-use Rattle.meaning.specs.Load.{marksIn, valuesIn}
 use Rattle.meaning.specs.Sheet.{Spot, Row}
-use Rattle.theorems.specs.Accepting.{marks-append, values-append}
 use Rattle.rows.specs.Blocks.{passed, rest, newRow, over, at}
 use Rattle.rows.specs.Counting.{Fresh}
 use Rattle.rows.specs.Balanced.{passed-rest, passed-rest-behind, fresh-parts}
 use Rattle.tables.specs.Finds.{Agrees, Tells}
 use Rattle.tables.specs.Standing.{behind}
-use Rattle.tables.specs.Words.{Tables}
 use Rattle.tables.specs.Holding.{Holds, four, begins}
 use Rattle.tables.specs.Parts.{at-behind}
 use Rattle.tables.specs.Stands.{FindsIn, Knows}
@@ -24,7 +20,7 @@ use Rattle.tables.specs.declared.Search.{Search}
 use Rattle.steps.specs.Steps.{Opens}
 use Rattle.act.proofs.Counted.{opened-counts}
 use Rattle.descend.specs.Reach.{changing, reached-row, reached-new, reached-none}
-use Rattle.descend.specs.Doing.{Making, Arrives, Leads}
+use Rattle.descend.specs.Doing.{Arrives, Leads}
 use Rattle.descend.specs.declared.Child.{Child}
 
 module _ (h k : List ℕ) (c : Counts) (from t : Position) (w : Search) (F : FindsIn h k (c .rows) from w t) where

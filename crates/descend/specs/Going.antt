@@ -2,13 +2,13 @@
 -- Assumes nothing.
 use Prim.Native.Nat.{ℕ, suc, _+_, _≤_, _<_}
 use native.Mathlib.Omega.{arith}
-use mathlib.Core.Path.{_≡_, refl, sym, ap, ap₂, _∙_, subst}
+use mathlib.Core.Path.{_≡_, refl, sym, ap, _∙_, subst}
 use mathlib.Core.Bool.{Bool, true, false, cond, true≢false}
 use mathlib.Core.List.{List, _∷_}
 use lib.Dec.{ltb, eqb}
 use lib.ListN.{length, getD, drop}
 use borrow.Author.Tests.{lt-ltb, le-ltb, ne-eqb}
-use Rattle.meaning.specs.Ways.{Prev, head, after, Assigned, Way, assign, delete, insert, intoMap, intoList, deletes, makes, steps}
+use Rattle.meaning.specs.Ways.{Prev, head, after, Assigned, Way, assign, delete, insert, intoMap, intoList, makes, steps}
 use Rattle.meaning.specs.Valid.{ValidKey, ValidWay}
 use Rattle.meaning.specs.Sheet.{Spot, inMap, inList, Row}
 use Rattle.rows.specs.Blocks.{runBlock, atKeyRows, atElementRows}
@@ -19,7 +19,7 @@ use Rattle.message.specs.declared.Deed.{Deed}
 use Rattle.tables.specs.Finds.{Agrees, Tells}
 use Rattle.tables.specs.Wants.{searchOf, passOf, meantOf, want-key, spot-agrees, spot-tells}
 use Rattle.tables.specs.declared.Counts.{Counts}
-use Rattle.deeds.specs.Deeds.{isDelete, isInsert, mayMake, insertsHere}
+use Rattle.deeds.specs.Deeds.{isInsert, mayMake, insertsHere}
 use Rattle.descend.specs.Reach.{changing}
 use Rattle.descend.specs.Doing.{Making}
 

@@ -2,13 +2,13 @@
 -- Assumes nothing.
 use Prim.Native.Nat.{ℕ, suc, _+_, _≤_, _<_}
 use native.Mathlib.Omega.{arith}
-use mathlib.Core.Path.{_≡_, refl, sym, ap, ap₂, _∙_}
+use mathlib.Core.Path.{_≡_, refl, sym, ap, _∙_}
 use mathlib.Core.Bool.{Bool, true, false, cond, _&&_}
-use mathlib.Core.List.{List, [], _∷_}
+use mathlib.Core.List.{List}
 use lib.Dec.{leb}
 use lib.ListN.{length}
 use borrow.Author.Tests.{le-leb, lt-leb}
-use Rattle.meaning.specs.Ways.{Assigned, plain, emptyMap, emptyList, Prev, head, after, Way, assign, delete, insert, intoMap, intoList}
+use Rattle.meaning.specs.Ways.{Assigned, plain, emptyMap, emptyList, Way, assign, delete, insert, intoMap, intoList}
 use Rattle.meaning.specs.Ways.{deletes, makes}
 use Rattle.meaning.specs.Ways as M
 use Rattle.meaning.specs.Limits.{fits}
@@ -16,14 +16,13 @@ use Rattle.meaning.specs.Load.{marksIn, valuesIn}
 use Rattle.meaning.specs.Places.{Document}
 use Rattle.meaning.specs.Apply.{apply}
 use Rattle.meaning.specs.Sheet.{Spot, inMap, inList, Row, rowsOf}
-use Rattle.theorems.specs.Accepting.{Limits, fits-limits}
+use Rattle.theorems.specs.Accepting.{fits-limits}
 use Rattle.rows.specs.Blocks.{Block}
 use Rattle.rows.specs.Locate.{Located, nowhere, here, locateKey, locateElement}
 use Rattle.rows.specs.Counting.{Change, noChange, both, adds, giveChange}
 use Rattle.rows.specs.Counting.{newChange, passingChange, newBlock, foundChange, isPrev, runChange}
-use Rattle.rows.specs.Counting.{change, Balance}
+use Rattle.rows.specs.Counting.{change}
 use Rattle.rows.specs.Balanced.{apply-balance}
-use Rattle.rows.specs.Within.{underChange, change-under}
 use Rattle.rows.specs.Room.{room, roomFor, sound-fresh, room-rows}
 use Rattle.tables.specs.Words.{Tables}
 use Rattle.tables.specs.declared.Counts.{Counts}

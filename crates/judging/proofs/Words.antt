@@ -4,16 +4,14 @@ use Prim.Native.Nat.{ℕ, zero, suc, _+_, _*_, _-_, _≤_, _<_}
 use native.Mathlib.Omega.{arith}
 use mathlib.Core.Path.{_≡_, refl, sym, ap, ap₂, _∙_}
 use mathlib.Core.Bool.{Bool, true, false, cond, not}
-use mathlib.Core.List.{List, [], _∷_, _++_}
+use mathlib.Core.List.{List, [], _∷_}
 use lib.Dec.{ltb, eqb}
-use lib.ListN.{length, getD, take, length-append}
+use lib.ListN.{length, getD, take}
 use lib.Seq.{getD-append-add}
 use borrow.Author.Tests.{eq-eqb, ne-eqb, lt-ltb, le-ltb}
 use Rattle.meaning.specs.Judge.{upward}
-use Rattle.meaning.specs.Ways.{Prev, head, after, Way, assign, delete, insert, intoMap, intoList, steps}
-use Rattle.meaning.specs.Valid.{ValidWay}
+use Rattle.meaning.specs.Ways.{head, after, Way, assign, delete, insert, intoMap, intoList, steps}
 use Rattle.rows.specs.Within.{GoesOn}
-use Rattle.readers.specs.Words.{keyWords}
 use Rattle.message.specs.Means.{prevWords, wayWords, deedOf, pad}
 use Rattle.message.specs.declared.Deed.{Deed}
 use Rattle.deeds.specs.Deeds.{isInsert}

@@ -5,10 +5,10 @@ use native.Mathlib.Omega.{arith}
 use mathlib.Core.Path.{_≡_, refl, sym, ap, _∙_, subst}
 use mathlib.Core.Bool.{Bool, true, false, not, _||_, true≢false}
 use mathlib.Core.List.{List, [], _∷_, _++_, append-assoc}
-use lib.ListN.{length, getD}
-use Rattle.meaning.specs.Ways.{Prev, head, after}
+use lib.ListN.{getD}
+use Rattle.meaning.specs.Ways.{head, after}
 use Rattle.meaning.specs.Sheet.{Spot, Row}
-use Rattle.rows.specs.Blocks.{passed, rest, deeper, isId, isGreater, inAMap, over, at, insertRows}
+use Rattle.rows.specs.Blocks.{passed, rest, isId, isGreater, inAMap, over, at, insertRows}
 use Rattle.rows.specs.Balanced.{passed-rest, passed-rest-behind}
 use Rattle.message.specs.Means.{prevWords}
 use Rattle.tables.specs.Finds.{wantElement, wantSeat, wantHead, element-agrees, seat-agrees, head-agrees, element-tells}
