@@ -23,14 +23,10 @@ rust-test:
 
 # rt follows no link, so a program's input and output are copies: of the kept vectors, and of what bench/reads and bench/works time
 same:
-	cmp vectors/layout.script crates/verdicts/stdin
-	cmp vectors/layout.answers crates/verdicts/stdout
-	cat vectors/received.script vectors/applied.script | cmp - crates/replay/stdin
-	cat vectors/received.answers vectors/applied.answers | cmp - crates/replay/stdout
+	cat vectors/layout.script vectors/received.script vectors/applied.script vectors/example.script | cmp - crates/replay/stdin
+	cat vectors/layout.answers vectors/received.answers vectors/applied.answers vectors/example.answers | cmp - crates/replay/stdout
 	cmp examples/five.messages crates/merge/stdin
 	cmp vectors/merge-example.sheet crates/merge/stdout
-	cmp vectors/merge-example-other.stream crates/merge_exchanged/stdin
-	cmp vectors/merge-example.sheet crates/merge_exchanged/stdout
 	cmp bench/typical.message crates/readings/stdin
 	rust/target/release/vectors bench typical 10 | cmp - crates/works/stdin
 	rust/target/release/workbench <crates/works/stdin | cmp - crates/works/stdout

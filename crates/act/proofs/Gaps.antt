@@ -1,7 +1,7 @@
 -- The gap that the marks of a way travel through: how many marks are put in, where the marks of a row stand, and a gap behind the last
 -- mark.
 -- Assumes nothing.
-use Prim.Native.Nat.{ℕ, _+_, _≤_, _<_}
+use Prim.Native.Nat.{ℕ, _+_, _≤_}
 use native.Mathlib.Omega.{arith}
 use mathlib.Core.Path.{_≡_}
 use mathlib.Core.Bool.{Bool, true, false, cond}
@@ -11,7 +11,7 @@ use Rattle.meaning.specs.Load.{marksIn}
 use Rattle.meaning.specs.Sheet.{Row}
 use Rattle.theorems.specs.Accepting.{marks-append}
 use Rattle.message.specs.declared.Deed.{Deed}
-use Rattle.words.specs.Gap.{Gap, Leaves}
+use Rattle.words.specs.Gap.{Leaves}
 use Rattle.tables.specs.Words.{Tables}
 use Rattle.tables.specs.Standing.{behind}
 use Rattle.tables.specs.Holding.{Holds}

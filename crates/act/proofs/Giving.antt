@@ -1,6 +1,6 @@
 -- What is done at the way's end, in tables that hold rows.
 -- Assumes nothing.
-use Prim.Native.Nat.{ℕ, suc, _+_, _-_, _≤_, _<_}
+use Prim.Native.Nat.{ℕ, _+_, _-_, _≤_, _<_}
 use native.Mathlib.Omega.{arith}
 use mathlib.Core.Path.{_≡_, refl, sym, ap, _∙_, subst}
 use mathlib.Core.Bool.{Bool, true, false, true≢false}
@@ -9,14 +9,13 @@ use lib.Dec.{eqb}
 use lib.IntN.{pos, negsuc}
 use lib.ListN.{length}
 use borrow.Author.Tests.{le-ltb}
-use Rattle.meaning.specs.Places.{Plain, null, bool, integer, string, Value}
-use Rattle.meaning.specs.Members.{Has, own, idOfValue}
-use Rattle.meaning.specs.Load.{marksIn, valuesIn}
-use Rattle.meaning.specs.Ways.{Assigned, plain, emptyMap, emptyList, Way, assign, delete, insert, head, after, intoMap, intoList}
+use Rattle.meaning.specs.Places.{Plain, null, bool, integer, string}
+use Rattle.meaning.specs.Members.{idOfValue}
+use Rattle.meaning.specs.Ways.{plain, emptyMap, emptyList, Way, assign, delete, insert, head, after, intoMap, intoList}
 use Rattle.meaning.specs.Valid.{ValidPlain}
 use Rattle.meaning.specs.Sheet.{Row}
 use Rattle.theorems.specs.Members.{put-length}
-use Rattle.rows.specs.Blocks.{passed, rest, Block, join, markRow, dropRow, addRow, clearRow, deeper, giveBlock, runBlock}
+use Rattle.rows.specs.Blocks.{passed, rest, markRow, dropRow, addRow, clearRow, deeper, giveBlock, runBlock}
 use Rattle.rows.specs.Counting.{Fresh}
 use Rattle.rows.specs.Within.{GoesOn}
 use Rattle.rows.specs.Balanced.{clear-marks-length, fresh-clear, clear-values-length, fresh-clear-values, clears-rows, passed-rest}

@@ -5,10 +5,8 @@ use native.Mathlib.Omega.{arith}
 use mathlib.Core.Path.{_≡_, refl, sym, ap, ap₂, _∙_, subst}
 use mathlib.Core.Bool.{true, false}
 use mathlib.Core.List.{List, [], _∷_, _++_, append-assoc}
-use Rattle.meaning.specs.Ways.{Prev, Assigned}
 use Rattle.meaning.specs.Sheet.{inList, Row}
-use Rattle.rows.specs.Blocks.{Block, join, rest, passed, deeper, newRow, giveBlock, insertRows}
-use Rattle.rows.specs.Counting.{newBlock}
+use Rattle.rows.specs.Blocks.{join, rest, passed, deeper, newRow, giveBlock, insertRows}
 use Rattle.readers.specs.Reads.{yes, no}
 use Rattle.readers.specs.declared.Given.{Given}
 use Rattle.tables.specs.Holding.{Holds, four}
@@ -19,7 +17,7 @@ use Rattle.steps.specs.Steps.{Opens}
 use Rattle.deeds.specs.Deeds.{givenIn}
 use Rattle.seats.specs.Seats.{Sits, SitsNot, Seats}
 use Rattle.seats.specs.declared.Seat.{Seat}
-use Rattle.act.specs.Acting.{Does, Gives, Inserts}
+use Rattle.act.specs.Acting.{Gives, Inserts}
 use Rattle.act.specs.declared.Act.{Act}
 use Rattle.act.proofs.Gaps.{mark-further, leaves-still}
 use Rattle.act.proofs.Counted.{opened-counts}

@@ -1,6 +1,6 @@
 -- An operation carried out on memory that holds a document.
 -- Assumes nothing.
-use Prim.Native.Nat.{ℕ, suc, _+_, _*_, _≤_, _<_}
+use Prim.Native.Nat.{ℕ, _+_, _*_, _<_}
 use native.Mathlib.Omega.{arith}
 use mathlib.Core.Path.{_≡_, refl, sym, ap, ap₂, _∙_, subst}
 use mathlib.Core.Bool.{Bool, true, false, cond, true≢false, false≢true}
@@ -27,7 +27,7 @@ use Rattle.rows.specs.Within.{underRows, apply-under}
 use Rattle.rows.specs.Counting.{Fresh}
 use Rattle.rows.specs.Room.{sound-fresh}
 use Rattle.counters.specs.Counted.{raised}
-use Rattle.message.specs.Means.{wayWords, deedWords, Means}
+use Rattle.message.specs.Means.{deedWords}
 use Rattle.message.specs.declared.Operation.{Operation}
 use Rattle.tables.specs.Words.{Tables}
 use Rattle.tables.specs.Holding.{Holds}
@@ -39,7 +39,6 @@ use Rattle.act.specs.Acting.{marksBy, withMarks}
 use Rattle.descend.specs.Doing.{Descends}
 use Rattle.act.proofs.Gaps.{marks-most}
 use Rattle.act.specs.declared.Act.{Act}
-use Rattle.keeping.specs.Storing.{Stores}
 use Rattle.judging.specs.Judging.{isTaken, judgementOf, byCounters, readyVerdict, verdictBy, verdict, Parts, Tops, Judges}
 use Rattle.judging.specs.declared.Refusal.the-variants as F
 use Rattle.judging.specs.declared.Readiness.the-variants as B
@@ -50,7 +49,6 @@ use Rattle.judging.proofs.Tops.{rows-top}
 use Rattle.judging.proofs.Verdicts.{whole, steps-whole, deed-whole, way-part, cut-short, parts-of}
 use Rattle.judging.proofs.Judged.{newer, here-stores}
 use Rattle.apply.specs.Applying.{CarriesWay, CarriesOut, TakesOn, Applies}
-use Rattle.apply.specs.declared.Outcome.{Outcome}
 use Rattle.apply.specs.declared.Later.{Later}
 
 -- what is done, of an operation

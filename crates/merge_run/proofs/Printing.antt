@@ -48,7 +48,7 @@ took-keeps k o =
 
 -- A buffer of 65,536 bytes or more, into which the terminal's document was saved
 module _ {input waiting h k m v : List ℕ} {s : State} {before after : List ℕ} {answer : Saved} (p : Merged input (four h k m v) waiting s)
-    (q : Saving h k m v (s .counts) (s .seen) before answer after) (room : 65536 ≤ length before) where
+    (q : Saving (four h k m v) (s .counts) (s .seen) before answer after) (room : 65536 ≤ length before) where
   saved : Saves (p .exit .document) before answer after
   saved =
       let d = p .keeps .document in

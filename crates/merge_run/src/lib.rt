@@ -5,6 +5,11 @@ use libc::STDIN_FILENO;
 use libc::STDOUT_FILENO;
 use meaning::Saved;
 use stream::Cut;
+use tables::HEADS;
+use tables::KEYS;
+use tables::MARKS;
+use tables::VALUES;
+use waiting::WAITING;
 ghost use Prim.Native.Nat.{_-_, _≤_, _<_};
 ghost use lib.ListN.{length, take};
 ghost use Rattle.meaning.specs.Receive.{newTerminal};
@@ -78,11 +83,11 @@ fn read_on(buf: &mut [u8], c: Cut) -> Input
 // Receives all messages of standard input into a new terminal: read by read, to the input's end, to a failure, or until 2^64 - 1 reads are
 // made. A proved loop has to end, and nothing says that the input does, so the turns are counted down from a number that no run uses up.
 fn receive_all(
-    heads: &mut [u64],
-    keys: &mut [u64],
-    marks: &mut [u64],
-    values: &mut [u64],
-    waiting: &mut [u64],
+    heads: &mut [u64; HEADS],
+    keys: &mut [u64; KEYS],
+    marks: &mut [u64; MARKS],
+    values: &mut [u64; VALUES],
+    waiting: &mut [u64; WAITING],
     s: State,
     buf: &mut [u8],
 ) -> Merged
@@ -121,10 +126,10 @@ fn receive_all(
 
 // Writes the sheet into a buffer, and answers how many bytes it has. No sheet is longer than 65,536 bytes (`theorems`, `Sizes`).
 fn whole_sheet(
-    heads: &[u64],
-    keys: &[u64],
-    marks: &[u64],
-    values: &[u64],
+    heads: &[u64; HEADS],
+    keys: &[u64; KEYS],
+    marks: &[u64; MARKS],
+    values: &[u64; VALUES],
     s: State,
     buf: &mut [u8],
 ) -> usize
@@ -162,7 +167,13 @@ fn write_first(buf: &[u8], n: usize)
 }
 
 // Prints the sheet.
-fn print(heads: &[u64], keys: &[u64], marks: &[u64], values: &[u64], s: State)
+fn print(
+    heads: &[u64; HEADS],
+    keys: &[u64; KEYS],
+    marks: &[u64; MARKS],
+    values: &[u64; VALUES],
+    s: State,
+)
     requires { ⌜ KeepsMerged (four (now heads) (now keys) (now marks) (now values)) s ⌝ }
 {
     let mut space = [0u8; 65536];
@@ -176,11 +187,11 @@ fn print(heads: &[u64], keys: &[u64], marks: &[u64], values: &[u64], s: State)
 // bytes that came, one after another. That these are the bytes of standard input, and that what is handed over is written, no contract of
 // `libc` says.
 pub fn merge() {
-    let mut heads = [0u64; 264];
-    let mut keys = [0u64; 792];
-    let mut marks = [0u64; 1032];
-    let mut values = [0u64; 1542];
-    let mut waiting = [0u64; 2560];
+    let mut heads = [0u64; HEADS];
+    let mut keys = [0u64; KEYS];
+    let mut marks = [0u64; MARKS];
+    let mut values = [0u64; VALUES];
+    let mut waiting = [0u64; WAITING];
     let mut buf = [0u8; 4096];
     let s = terminal::empty();
     let m = receive_all(
@@ -192,7 +203,8 @@ pub fn merge() {
         s,
         &mut buf,
     );
-    if m.ok {
+    let ok = m.ok;
+    if ok {
         let state = m.state;
         print(&heads, &keys, &marks, &values, state);
     }

@@ -25,38 +25,38 @@ feed = fixed (ascii "\n")
 
 -- First lines.
 
-module _ (name s : List ℕ) (a : ℕ) where
+module _ (most : ℕ) (name s : List ℕ) (a : ℕ) where
   -- what is promised of an answer, were its `ok` this
   abbrev Line : Asked → Bool → Type 0
-  Line r b = either b (Took (firstLines name) s a (tt, (r .number, tt)) (r .next)) (Never (firstLines name) s a)
+  Line r b = either b (Took (firstLines most name) s a (tt, (r .number, tt)) (r .next)) (Never (firstLines most name) s a)
 
-  pub not-asked : (r : Asked) → r .ok ≡ false → Never (firstLines name) s a → FindsLine name s a r
+  pub not-asked : (r : Asked) → r .ok ≡ false → Never (firstLines most name) s a → FindsLine most name s a r
   not-asked r e h = subst (Line r) (sym e) h
 
-  pub line-took : (r : Asked) → r .ok ≡ true → FindsLine name s a r → Took (firstLines name) s a (tt, (r .number, tt)) (r .next)
+  pub line-took : (r : Asked) → r .ok ≡ true → FindsLine most name s a r → Took (firstLines most name) s a (tt, (r .number, tt)) (r .next)
   line-took r e k = subst (Line r) e k
 
-  pub line-none : (r : Asked) → r .ok ≡ false → FindsLine name s a r → Never (firstLines name) s a
+  pub line-none : (r : Asked) → r .ok ≡ false → FindsLine most name s a r → Never (firstLines most name) s a
   line-none r e k = subst (Line r) e k
 
-  pub no-name : Never (fixed name) s a → Never (firstLines name) s a
-  no-name h = no-first (fixed name) (then (numbers 0 65536) feed) (λ x y t v m. tt) s a h
+  pub no-name : Never (fixed name) s a → Never (firstLines most name) s a
+  no-name h = no-first (fixed name) (then (numbers 0 most) feed) (λ x y t v m. tt) s a h
 
   module _ (n : ℕ) (k : Took (fixed name) s a tt n) where
-    behind-name : Never (then (numbers 0 65536) feed) s n → Never (firstLines name) s a
-    behind-name h = no-second (fixed name) (then (numbers 0 65536) feed) (λ x y t v m. tt) s a tt n k h
+    behind-name : Never (then (numbers 0 most) feed) s n → Never (firstLines most name) s a
+    behind-name h = no-second (fixed name) (then (numbers 0 most) feed) (λ x y t v m. tt) s a tt n k h
 
-    pub no-number : Never (numbers 0 65536) s n → Never (firstLines name) s a
-    no-number h = behind-name (no-first (numbers 0 65536) feed (λ x y t v m. refl) s n h)
+    pub no-number : Never (numbers 0 most) s n → Never (firstLines most name) s a
+    no-number h = behind-name (no-first (numbers 0 most) feed (λ x y t v m. refl) s n h)
 
-    module _ (v m : ℕ) (l : Took (numbers 0 65536) s n v m) where
-      pub no-feed : Never feed s m → Never (firstLines name) s a
-      no-feed h = behind-name (no-second (numbers 0 65536) feed (λ x y t v m. refl) s n v m l h)
+    module _ (v m : ℕ) (l : Took (numbers 0 most) s n v m) where
+      pub no-feed : Never feed s m → Never (firstLines most name) s a
+      no-feed h = behind-name (no-second (numbers 0 most) feed (λ x y t v m. refl) s n v m l h)
 
-      pub a-line : (o : ℕ) → Took feed s m tt o → Took (firstLines name) s a (tt, (v, tt)) o
+      pub a-line : (o : ℕ) → Took feed s m tt o → Took (firstLines most name) s a (tt, (v, tt)) o
       a-line o j =
-          both (fixed name) (then (numbers 0 65536) feed) (λ x y t v m. tt) s a tt n k (v, tt) o
-          (both (numbers 0 65536) feed (λ x y t v m. refl) s n v m l tt o j)
+          both (fixed name) (then (numbers 0 most) feed) (λ x y t v m. tt) s a tt n k (v, tt) o
+          (both (numbers 0 most) feed (λ x y t v m. refl) s n v m l tt o j)
 
 -- Calls.
 
@@ -66,20 +66,20 @@ module _ (name s : List ℕ) (a : ℕ) where
 
   -- a call with this block begins with its first line
   split : (block t : List ℕ) → drop a s ≡ calls name .text block ++ t
-      → drop a s ≡ firstLines name .text (tt, (length block, tt)) ++ (block ++ (ascii "\n" ++ t))
+      → drop a s ≡ firstLines 65536 name .text (tt, (length block, tt)) ++ (block ++ (ascii "\n" ++ t))
   split block t e =
-      let line = firstLines name .text (tt, (length block, tt)) in
+      let line = firstLines 65536 name .text (tt, (length block, tt)) in
       e ∙ (append-assoc line (block ++ ascii "\n") t ∙ ap (λ l. line ++ l) (append-assoc block (ascii "\n") t))
 
-  pub no-line : Never (firstLines name) s a → Never (calls name) s a
+  pub no-line : Never (firstLines 65536 name) s a → Never (calls name) s a
   no-line h = record {
     not = λ block t ok m e. h .not (tt, (length block, tt)) (block ++ (ascii "\n" ++ t)) (tt, ((omega arith, ok), tt)) tt (split block t e);
   }
 
-  module _ (v n : ℕ) (line : Took (firstLines name) s a (tt, (v, tt)) n) where
+  module _ (v n : ℕ) (line : Took (firstLines 65536 name) s a (tt, (v, tt)) n) where
     -- the place behind a first line, and its number
     pub line-within : (n ≤ length s) × (v ≤ 65536)
-    line-within = (took-past (firstLines name) s a (tt, (v, tt)) n line (line-long name v) .0, line .valid .1 .0 .1)
+    line-within = (took-past (firstLines 65536 name) s a (tt, (v, tt)) n line (line-long 65536 name v) .0, line .valid .1 .0 .1)
 
     -- the block of a call there has v bytes
     behind-line : (block t : List ℕ) → length block ≤ 65536 → drop a s ≡ calls name .text block ++ t
@@ -107,7 +107,7 @@ module _ (name s : List ℕ) (a : ℕ) where
       block-took : Took (calls name) s a (take v (drop n s)) m
       block-took =
           let block = take v (drop n s) in
-          let first = firstLines name .text (tt, (v, tt)) in
+          let first = firstLines 65536 name .text (tt, (v, tt)) in
           let e : drop n s ≡ (block ++ ascii "\n") ++ drop m s =
           sym (take-append-drop v (drop n s))
           ∙ (ap (λ t. block ++ t) (drop-drop v n s ∙ end .text) ∙ sym (append-assoc block (ascii "\n") (drop m s))) in

@@ -1,6 +1,6 @@
 -- docs/REPLAY.md, "Scripts": a call whose first line has one number, and the block of bytes behind it. A name stands here with the space
--- behind it. Stricter than REPLAY.md: the number is at most 65536, its limit of a block and of a buffer. Looser: no limit of 40 bytes
--- for the first line.
+-- behind it. The caller says what number is the greatest; that of a block's bytes is at most 65536. Looser than REPLAY.md: no limit of 40
+-- bytes for the first line.
 -- Assumes nothing.
 use Prim.Native.Nat.{ℕ, _+_, _-_, _≤_}
 use mathlib.Core.Path.{_≡_, refl}
@@ -16,9 +16,9 @@ use Rattle.readers.specs.Reads.{either}
 use Rattle.script.specs.declared.Asked.{Asked}
 use Rattle.script.specs.declared.Call.{Call}
 
--- a name, a number and one LF
-abbrev pub firstLines : List ℕ → Layout (Unit {0} × (ℕ × Unit {0}))
-firstLines name = then (fixed name) (then (numbers 0 65536) (fixed (ascii "\n")))
+-- a name, a number that is at most `most`, and one LF
+abbrev pub firstLines : ℕ → List ℕ → Layout (Unit {0} × (ℕ × Unit {0}))
+firstLines most name = then (fixed name) (then (numbers 0 most) (fixed (ascii "\n")))
 
 -- a first line with the number of the block's bytes, the block, and one LF
 abbrev pub calls : List ℕ → Layout (List ℕ)
@@ -43,8 +43,9 @@ abbrev pub partOf : ℕ → ℕ → List ℕ → List ℕ
 partOf from to s = cond (leb from to && leb to (length s)) (take (to - from) (drop from s)) []
 
 -- A first line stands at a, with this number, and the place behind it is `next`; or none does.
-abbrev pub FindsLine : List ℕ → List ℕ → ℕ → Asked → Type 0
-FindsLine name s a r = either (r .ok) (Took (firstLines name) s a (tt, (r .number, tt)) (r .next)) (Never (firstLines name) s a)
+abbrev pub FindsLine : ℕ → List ℕ → List ℕ → ℕ → Asked → Type 0
+FindsLine most name s a r =
+    either (r .ok) (Took (firstLines most name) s a (tt, (r .number, tt)) (r .next)) (Never (firstLines most name) s a)
 
 -- A call stands at a. Its block is the part from `from` up to `to`; one LF stands behind it, and then the next call.
 pub record Found (name s : List ℕ) (a : ℕ) (r : Call) : Type 0 where

@@ -40,12 +40,12 @@ module _ {X : Type 0} (L : Layout X) (s : List ℕ) (a : ℕ) where
 
 -- A first line has a byte or more, its LF; so has a call.
 
-pub line-long : (name : List ℕ) (v : ℕ) → 0 < length (firstLines name .text (tt, (v, tt)))
-line-long name v = omega (arith, length-append name (decimal v ++ ascii "\n"), length-append (decimal v) (ascii "\n"))
+pub line-long : (most : ℕ) (name : List ℕ) (v : ℕ) → 0 < length (firstLines most name .text (tt, (v, tt)))
+line-long most name v = omega (arith, length-append name (decimal v ++ ascii "\n"), length-append (decimal v) (ascii "\n"))
 
 pub call-long : (name block : List ℕ) → 0 < length (calls name .text block)
 call-long name block =
-    omega (arith, line-long name (length block), length-append (name ++ (decimal (length block) ++ ascii "\n")) (block ++ ascii "\n"))
+    omega (arith, line-long 65536 name (length block), length-append (name ++ (decimal (length block) ++ ascii "\n")) (block ++ ascii "\n"))
 
 -- A part within s.
 
@@ -57,20 +57,20 @@ part-long from to s h l = ap length (part-is from to s h l) ∙ length-take-le (
 
 -- Any two answers.
 
-pub line-once : (name s : List ℕ) (a : ℕ) (q r : Asked) → FindsLine name s a q → FindsLine name s a r
+pub line-once : (most : ℕ) (name s : List ℕ) (a : ℕ) (q r : Asked) → FindsLine most name s a q → FindsLine most name s a r
     → (q .ok ≡ r .ok) × (q .ok ≡ true → (q .number ≡ r .number) × (q .next ≡ r .next))
-line-once name s a q r = go (q .ok) (r .ok)
+line-once most name s a q r = go (q .ok) (r .ok)
   where
     Takes : Asked → Type 0
-    Takes p = Took (firstLines name) s a (tt, (p .number, tt)) (p .next)
+    Takes p = Took (firstLines most name) s a (tt, (p .number, tt)) (p .next)
 
-    go : (b c : Bool) → either b (Takes q) (Never (firstLines name) s a) → either c (Takes r) (Never (firstLines name) s a)
+    go : (b c : Bool) → either b (Takes q) (Never (firstLines most name) s a) → either c (Takes r) (Never (firstLines most name) s a)
         → (b ≡ c) × (b ≡ true → (q .number ≡ r .number) × (q .next ≡ r .next))
     go true true k l =
-        let o = took-once (firstLines name) s a _ _ _ _ k l (line-long name (q .number)) (line-long name (r .number)) in
+        let o = took-once (firstLines most name) s a _ _ _ _ k l (line-long most name (q .number)) (line-long most name (r .number)) in
         (refl, λ e. (ap (λ p. p .1 .0) (o .0), o .1))
-    go true false k l = absurd (took-never (firstLines name) s a _ _ k l)
-    go false true k l = absurd (took-never (firstLines name) s a _ _ l k)
+    go true false k l = absurd (took-never (firstLines most name) s a _ _ k l)
+    go false true k l = absurd (took-never (firstLines most name) s a _ _ l k)
     go false false k l = (refl, λ e. absurd (true≢false (sym e)))
 
 pub call-once : (name s : List ℕ) (a : ℕ) (q r : Call) → FindsCall name s a q → FindsCall name s a r

@@ -5,6 +5,9 @@ ghost use mathlib.Core.Path.{_≡_};
 ghost use mathlib.Core.Bool.{false};
 ghost use Rattle.script.specs.Calls.{FindsLine, FindsCall, partOf};
 
+// The longest block and the longest buffer.
+pub const LONGEST: u64 = 65536;
+
 // The number in a call's first line, and the place behind that line. Not ok: the call is another one.
 pub struct Asked {
     pub ok: bool,
@@ -41,15 +44,15 @@ fn no_call() -> Call
     }
 }
 
-// The first line of a call with this name and one number, up to 65536.
-pub fn first_line(s: &[u8], a: usize, name: &[u8]) -> Asked
-    ensures { λ r. ⌜ FindsLine (now (name .entry)) (now (s .entry)) a r ⌝ }
+// The first line of a call with this name and one number, which is `most` at most.
+pub fn first_line(s: &[u8], a: usize, name: &[u8], most: u64) -> Asked
+    ensures { λ r. ⌜ FindsLine most (now (name .entry)) (now (s .entry)) a r ⌝ }
 {
     let powers = decimal::powers();
     let Past::At(n) = readers::take_text(s, a, name) else {
         return not_asked();
     };
-    let Number::Value { value, next: end } = decimal::take_decimal(s, n, 65536, &powers) else {
+    let Number::Value { value, next: end } = decimal::take_decimal(s, n, most, &powers) else {
         return not_asked();
     };
     let Past::At(next) = readers::take_byte(s, end, b'\n') else {
@@ -66,7 +69,7 @@ pub fn first_line(s: &[u8], a: usize, name: &[u8]) -> Asked
 pub fn block(s: &[u8], a: usize, name: &[u8]) -> Call
     ensures { λ r. ⌜ FindsCall (now (name .entry)) (now (s .entry)) a r ⌝ }
 {
-    let line = first_line(s, a, name);
+    let line = first_line(s, a, name, LONGEST);
     if !line.ok {
         return no_call();
     }

@@ -3,14 +3,11 @@
 use Prim.Native.Nat.{ℕ}
 use mathlib.Core.Path.{_≡_, sym, _∙_, subst}
 use mathlib.Core.Bool.{Bool, true, not, _&&_}
-use mathlib.Core.List.{List, _∷_, _++_}
+use mathlib.Core.List.{List}
 use native.Mathlib.Omega.{arith}
 use borrow.Author.Tests.{not-true, not-false, ltb-false, lt-leb}
-use lib.ListN.{length}
 use Rattle.meaning.specs.Ids.{counterOf, entryOf, entry, allBelow, ready}
 use Rattle.meaning.specs.Judge.{notAbove, repeated, ownDepsBehind}
-use Rattle.meaning.specs.Receive.{Terminal}
-use Rattle.meaning.specs.Ways.{Operation}
 use Rattle.theorems.specs.Counters.{allBelow-each}
 use Rattle.theorems.specs.Decide.{and-left, and-right}
 use Rattle.theorems.specs.Invariant.{Sent}
@@ -22,7 +19,6 @@ use Rattle.judging.specs.declared.Judgement.the-variants as J
 use Rattle.waiting.specs.Waits.{TellsEarly, Tells}
 use Rattle.waiting.proofs.Holds.{all-at}
 use Rattle.keeping.specs.declared.State.{State}
-use Rattle.keeping.specs.Keeping.{Keeps}
 use Rattle.settling.specs.Settling.{Looks}
 use Rattle.settling.proofs.Verdicts.{early-verdict}
 

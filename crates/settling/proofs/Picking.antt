@@ -1,6 +1,6 @@
 -- The first operation that passes a test: where it stands, and the operations without it. Settling by its first round.
 -- Assumes nothing.
-use Prim.Native.Nat.{ℕ, suc, _+_, _-_, _<_}
+use Prim.Native.Nat.{ℕ, _+_, _-_, _<_}
 use native.Mathlib.Omega.{arith}
 use mathlib.Core.Path.{_≡_, refl, sym, ap, _∙_}
 use mathlib.Core.Bool.{Bool, true, false, not, false≢true, true≢false}
@@ -13,7 +13,7 @@ use Rattle.meaning.specs.Sets.{keep}
 use Rattle.meaning.specs.Ways.{Operation}
 use Rattle.meaning.specs.Members.{All, Has, Ascending}
 use Rattle.meaning.specs.Receive.{Terminal, dead, able, nobody, picked, first, without, Settled, onward, settleIn, settle}
-use Rattle.theorems.specs.Keep.{keep-nil, keep-yes, keep-no}
+use Rattle.theorems.specs.Keep.{keep-yes, keep-no}
 use Rattle.theorems.specs.Members.{all-append, keep-all, keep-empty, keep-length, has-right}
 use Rattle.theorems.specs.Picking.{picked-shorter}
 use Rattle.theorems.specs.Settling.{left, rid, next}

@@ -1,19 +1,17 @@
 -- A round of settling, from a sweep and an operation that is applied; and settling, round by round.
 -- Assumes nothing.
-use Prim.Native.Nat.{ℕ, suc, _+_, _-_, _≤_, _<_}
+use Prim.Native.Nat.{ℕ, _+_, _-_, _≤_, _<_}
 use native.Mathlib.Omega.{arith}
-use mathlib.Core.Path.{_≡_, refl, sym, ap, _∙_}
-use mathlib.Core.Bool.{Bool, true, false, not, false≢true, true≢false}
+use mathlib.Core.Path.{_≡_, refl, ap, _∙_}
+use mathlib.Core.Bool.{true, false, not, false≢true, true≢false}
 use mathlib.Core.List.{List, _∷_, _++_}
 use lib.ListN.{length}
 use borrow.Author.Tests.{not-true}
 use Rattle.meaning.specs.Apply.{apply}
-use Rattle.meaning.specs.Ways.{Operation}
-use Rattle.meaning.specs.Members.{All}
 use Rattle.meaning.specs.Receive.{Terminal, dead, able, settle}
 use Rattle.theorems.specs.Invariant.{Sent}
 use Rattle.theorems.specs.Members.{all-pass}
-use Rattle.theorems.specs.Settling.{left, rid, next, next-all}
+use Rattle.theorems.specs.Settling.{left, next, next-all}
 use Rattle.tables.specs.Words.{Tables}
 use Rattle.message.specs.declared.Operation as M
 use Rattle.keeping.specs.Storing.{Stores}
@@ -25,9 +23,8 @@ use Rattle.waiting.proofs.Holds.{all-at}
 use Rattle.keeping.specs.declared.State.{State}
 use Rattle.settling.specs.declared.Swept.{Swept}
 use Rattle.settling.specs.declared.Rounded.{Rounded}
-use Rattle.settling.specs.declared.Settled.{Settled}
 use Rattle.keeping.specs.Keeping.{Keeps}
-use Rattle.settling.specs.Settling.{Rid, Sweeps, Over, On, Round, Rounds, Rests, Settles}
+use Rattle.settling.specs.Settling.{Sweeps, Rounds, Rests}
 use Rattle.settling.proofs.Verdicts.{taken-verdict}
 use Rattle.settling.proofs.Picking.{Spotted, spotted, spot-nobody, without-at, settle-over, settle-on}
 

@@ -15,10 +15,9 @@ use Rattle.theorems.specs.Keep.{keep-nil, keep-yes, keep-no, keep-append}
 use Rattle.tables.specs.Words.{Tables}
 use Rattle.judging.specs.Judging.{isTaken, verdict}
 use Rattle.judging.specs.declared.Judgement.{Judgement}
-use Rattle.waiting.specs.Waits.{Waits, Gone, TakesOut}
+use Rattle.waiting.specs.Waits.{Gone, TakesOut}
 use Rattle.waiting.proofs.Holds.{all-at, all-but}
 use Rattle.keeping.specs.declared.State.{State}
-use Rattle.settling.specs.declared.Swept.{Swept}
 use Rattle.settling.specs.Verdicts.{deadly}
 use Rattle.keeping.specs.Keeping.{Keeps}
 use Rattle.settling.specs.Settling.{Looks, Spot, none, Rid}

@@ -1,7 +1,7 @@
 -- What the verdict on an operation that may wait says: which are dead, which can be applied.
 -- Assumes nothing.
 use mathlib.Core.Path.{_≡_, refl}
-use mathlib.Core.Bool.{Bool, true, false, cond, _&&_, _||_, false≢true, true≢false}
+use mathlib.Core.Bool.{Bool, true, false, cond, _&&_, _||_, true≢false}
 use Rattle.meaning.specs.Places.{Document}
 use Rattle.meaning.specs.Ways.{Operation}
 use Rattle.meaning.specs.Apply.{apply}

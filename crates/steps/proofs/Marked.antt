@@ -15,7 +15,7 @@ use Rattle.words.specs.Words.{run, opened, inserted}
 use Rattle.words.specs.Rows.{rankOf, Ranked}
 use Rattle.words.proofs.Over.{run-parts}
 use Rattle.words.proofs.Flat.{alone, flat-own, strides-own}
-use Rattle.words.specs.Gap.{Gap, Leaves}
+use Rattle.words.specs.Gap.{Gap}
 use Rattle.words.proofs.Gap.{gap-open, gap-run, gap-put, zeros-behind}
 use Rattle.tables.specs.Words.{headWord, marksAt, marksOf, pad, Tables}
 use Rattle.tables.specs.Holding.{marksRoom, valuesRoom, Holds}

@@ -5,7 +5,6 @@ use native.Mathlib.Omega.{arith}
 use mathlib.Core.Path.{_≡_, refl, sym, ap, subst, _∙_}
 use mathlib.Core.Bool.{Bool, true, false, cond, false≢true, true≢false}
 use mathlib.Core.List.{List}
-use lib.Dec.{leb}
 use lib.ListN.{length}
 use borrow.Author.Tests.{le-leb, lt-leb}
 use Rattle.meaning.specs.Apply.{apply}
@@ -15,7 +14,7 @@ use Rattle.meaning.specs.Valid.{ValidOperation}
 use Rattle.meaning.specs.Message.{message}
 use Rattle.meaning.specs.Answers.{only, receiptAnswer}
 use Rattle.meaning.specs.Judge.{notAbove, repeated, ownDepsBehind, astray, downward}
-use Rattle.meaning.specs.Receive.{Terminal, readyIn, waits, Verdict, refused, kept, taken, judgeReady}
+use Rattle.meaning.specs.Receive.{Terminal, readyIn, waits, Verdict, refused, taken, judgeReady}
 use Rattle.meaning.specs.Receive.{judgeEarly, judge, finish, receive, settle}
 use Rattle.meaning.specs.Promises.{Says, says, saysNothing}
 use Rattle.meaning.specs.declared.Receipt.{Receipt}
@@ -44,7 +43,7 @@ use Rattle.terminal.specs.Refusals.{refusalOf}
 use Rattle.keeping.specs.Keeping.{Keeps, withinMemory, keeps-within}
 use Rattle.keeping.specs.Once.{keeps-once}
 use Rattle.theorems.specs.Determined.{receives-once}
-use Rattle.settling.specs.Settling.{Rests, Settles}
+use Rattle.settling.specs.Settling.{Settles}
 use Rattle.terminal.specs.Promises.{Comes, Awaits, Kept, Receiving}
 use Rattle.settling.proofs.Sweeping.{counting}
 

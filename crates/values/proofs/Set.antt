@@ -1,27 +1,24 @@
 -- A row's values that are covered go, and one comes: written over the only one, or put among those that are left.
 -- Assumes nothing.
-use Prim.Native.Nat.{ℕ, _+_, _*_, _≤_, _<_}
+use Prim.Native.Nat.{ℕ, _+_, _*_, _≤_}
 use native.Mathlib.Omega.{arith}
 use mathlib.Core.Path.{_≡_, refl, sym, ap, subst, _∙_}
-use mathlib.Core.Bool.{Bool, true, false, not}
+use mathlib.Core.Bool.{true, false, not}
 use mathlib.Core.List.{List, [], _∷_, _++_}
-use lib.ListN.{length, set, getD, drop, replicate}
-use lib.Seq.{set-getD, getD-drop}
+use lib.ListN.{length, set, getD}
+use lib.Seq.{set-getD}
 use Rattle.meaning.specs.Clear.{clearValues}
 use Rattle.meaning.specs.Ids.{covered, uncovered}
-use Rattle.meaning.specs.Load.{valuesIn}
 use Rattle.meaning.specs.Members.{idOfValue}
-use Rattle.meaning.specs.Places.{Plain, Value}
+use Rattle.meaning.specs.Places.{Value}
 use Rattle.meaning.specs.Sets.{keep, put}
 use Rattle.meaning.specs.Sheet.{Row}
 use Rattle.theorems.specs.Members.{asc-keep, asc-put, keep-length}
 use Rattle.rows.specs.Blocks.{dropRow, addRow}
 use Rattle.words.specs.Words.{overAt}
-use Rattle.words.proofs.Over.{over-parts}
-use Rattle.tables.specs.Words.{headWord, plainWords, valueWords, valuesAt, valuesOf, pad}
+use Rattle.tables.specs.Words.{headWord, valueWords, valuesAt, valuesOf, pad}
 use Rattle.tables.specs.Holding.{marksRoom, valuesRoom, Holds, four}
-use Rattle.tables.specs.Parts.{at-behind, plain-six, values-length}
-use Rattle.tables.specs.Standing.{behind}
+use Rattle.tables.specs.Parts.{at-behind, plain-six}
 use Rattle.tables.specs.declared.Counts.{Counts}
 use Rattle.tables.specs.declared.Position.{Position}
 use Rattle.values.specs.Values.{Drops, Adds, One, Sets}

@@ -6,6 +6,11 @@ use keeping::State;
 use libc::STDIN_FILENO;
 use libc::STDOUT_FILENO;
 use meaning::Saved;
+use tables::HEADS;
+use tables::KEYS;
+use tables::MARKS;
+use tables::VALUES;
+use waiting::WAITING;
 
 // Where the next call stands, and the terminal's state.
 struct Played {
@@ -24,26 +29,14 @@ fn say_number(n: usize, behind: &[u8]) {
     io::write_all(STDOUT_FILENO, behind);
 }
 
-// The words of another table.
-fn copy(to: &mut [u64], from: &[u64]) {
-    let mut i: usize = 0;
-    while i < to.len() {
-        if from.len() <= i {
-            return;
-        }
-        to[i] = from[i];
-        i += 1;
-    }
-}
-
 // Receives the message of a block, if there is a next call and it is such.
 fn receive(
     text: &[u8],
-    heads: &mut [u64],
-    keys: &mut [u64],
-    marks: &mut [u64],
-    values: &mut [u64],
-    waiting: &mut [u64],
+    heads: &mut [u64; HEADS],
+    keys: &mut [u64; KEYS],
+    marks: &mut [u64; MARKS],
+    values: &mut [u64; VALUES],
+    waiting: &mut [u64; WAITING],
     p: Played,
 ) -> Played {
     let b = script::block(text, p.at, b"receive ");
@@ -67,11 +60,11 @@ fn receive(
 // Receives the messages up to the first call that is another one.
 fn receive_all(
     text: &[u8],
-    heads: &mut [u64],
-    keys: &mut [u64],
-    marks: &mut [u64],
-    values: &mut [u64],
-    waiting: &mut [u64],
+    heads: &mut [u64; HEADS],
+    keys: &mut [u64; KEYS],
+    marks: &mut [u64; MARKS],
+    values: &mut [u64; VALUES],
+    waiting: &mut [u64; WAITING],
     start: Played,
 ) -> Played {
     let mut p = start;
@@ -98,14 +91,14 @@ fn written(saved: Saved) -> usize {
 // Saves, if there is a last call and it is such.
 fn save(
     text: &[u8],
-    heads: &[u64],
-    keys: &[u64],
-    marks: &[u64],
-    values: &[u64],
+    heads: &[u64; HEADS],
+    keys: &[u64; KEYS],
+    marks: &[u64; MARKS],
+    values: &[u64; VALUES],
     p: Played,
     buf: &mut [u8],
 ) -> usize {
-    let line = script::first_line(text, p.at, b"save ");
+    let line = script::first_line(text, p.at, b"save ", script::LONGEST);
     if !line.ok {
         return 0;
     }
@@ -119,29 +112,24 @@ fn save(
     written(sheet::save(heads, keys, marks, values, counts, seen, &mut buf[..n]))
 }
 
-// One turn with the terminal as it was built.
+// One turn with a copy of the terminal.
 fn turn(
     text: &[u8],
-    heads: &mut [u64],
-    keys: &mut [u64],
-    marks: &mut [u64],
-    values: &mut [u64],
-    waiting: &mut [u64],
-    built_heads: &[u64],
-    built_keys: &[u64],
-    built_marks: &[u64],
-    built_values: &[u64],
-    built_waiting: &[u64],
+    heads: &[u64; HEADS],
+    keys: &[u64; KEYS],
+    marks: &[u64; MARKS],
+    values: &[u64; VALUES],
+    waiting: &[u64; WAITING],
     built: Played,
     buf: &mut [u8],
 ) -> Turned {
-    copy(heads, built_heads);
-    copy(keys, built_keys);
-    copy(marks, built_marks);
-    copy(values, built_values);
-    copy(waiting, built_waiting);
-    let p = receive_all(text, heads, keys, marks, values, waiting, built);
-    let written = save(text, heads, keys, marks, values, p, buf);
+    let mut h = *heads;
+    let mut k = *keys;
+    let mut m = *marks;
+    let mut v = *values;
+    let mut w = *waiting;
+    let p = receive_all(text, &mut h, &mut k, &mut m, &mut v, &mut w, built);
+    let written = save(text, &h, &k, &m, &v, p, buf);
     let state = p.state;
     Turned { state, written }
 }
@@ -149,97 +137,45 @@ fn turn(
 // All turns.
 fn turns(
     text: &[u8],
-    heads: &mut [u64],
-    keys: &mut [u64],
-    marks: &mut [u64],
-    values: &mut [u64],
-    waiting: &mut [u64],
-    built_heads: &[u64],
-    built_keys: &[u64],
-    built_marks: &[u64],
-    built_values: &[u64],
-    built_waiting: &[u64],
+    heads: &[u64; HEADS],
+    keys: &[u64; KEYS],
+    marks: &[u64; MARKS],
+    values: &[u64; VALUES],
+    waiting: &[u64; WAITING],
     built: Played,
-    buf: &mut [u8],
     count: usize,
 ) -> Turned {
+    let mut space = [0u8; 65536];
+    let buf: &mut [u8] = &mut space;
     let state = built.state;
     let mut last = Turned { state, written: 0 };
     let mut left = count;
     while 0 < left {
-        last = turn(
-            text,
-            heads,
-            keys,
-            marks,
-            values,
-            waiting,
-            built_heads,
-            built_keys,
-            built_marks,
-            built_values,
-            built_waiting,
-            built,
-            buf,
-        );
+        last = turn(text, heads, keys, marks, values, waiting, built, buf);
         left -= 1;
     }
     last
 }
 
-// Keeps the tables as they were built, for the turns.
-fn keep(
-    text: &[u8],
-    heads: &mut [u64],
-    keys: &mut [u64],
-    marks: &mut [u64],
-    values: &mut [u64],
-    waiting: &mut [u64],
-    built: Played,
-    count: usize,
-) -> Turned {
-    let mut heads_then = [0u64; 264];
-    copy(&mut heads_then, heads);
-    let mut keys_then = [0u64; 792];
-    copy(&mut keys_then, keys);
-    let mut marks_then = [0u64; 1032];
-    copy(&mut marks_then, marks);
-    let mut values_then = [0u64; 1542];
-    copy(&mut values_then, values);
-    let mut waiting_then = [0u64; 2560];
-    copy(&mut waiting_then, waiting);
-    let mut buf = [0u8; 65536];
-    turns(
-        text,
-        heads,
-        keys,
-        marks,
-        values,
-        waiting,
-        &heads_then,
-        &keys_then,
-        &marks_then,
-        &values_then,
-        &waiting_then,
-        built,
-        &mut buf,
-        count,
-    )
-}
-
 // Builds the terminal, and plays the turns.
-fn play(
-    text: &[u8],
-    heads: &mut [u64],
-    keys: &mut [u64],
-    marks: &mut [u64],
-    values: &mut [u64],
-    waiting: &mut [u64],
-) -> Turned {
+fn play(text: &[u8]) -> Turned {
+    let mut heads = [0u64; HEADS];
+    let mut keys = [0u64; KEYS];
+    let mut marks = [0u64; MARKS];
+    let mut values = [0u64; VALUES];
+    let mut waiting = [0u64; WAITING];
     let state = terminal::empty();
     let begun = Played { at: 0, state };
-    let p = receive_all(text, heads, keys, marks, values, waiting, begun);
-    let line = script::first_line(text, p.at, b"save ");
+    let p = receive_all(
+        text,
+        &mut heads,
+        &mut keys,
+        &mut marks,
+        &mut values,
+        &mut waiting,
+        begun,
+    );
+    let line = script::first_line(text, p.at, b"save ", u64::MAX);
     let s = p.state;
     if !line.ok {
         return Turned {
@@ -251,13 +187,13 @@ fn play(
         at: line.next,
         state: s,
     };
-    keep(
+    turns(
         text,
-        heads,
-        keys,
-        marks,
-        values,
-        waiting,
+        &heads,
+        &keys,
+        &marks,
+        &values,
+        &waiting,
         built,
         line.number,
     )
@@ -266,19 +202,7 @@ fn play(
 fn main() {
     let mut text = [0u8; 131072];
     let n = io::read_full(STDIN_FILENO, &mut text);
-    let mut heads = [0u64; 264];
-    let mut keys = [0u64; 792];
-    let mut marks = [0u64; 1032];
-    let mut values = [0u64; 1542];
-    let mut waiting = [0u64; 2560];
-    let r = play(
-        &text[..n],
-        &mut heads,
-        &mut keys,
-        &mut marks,
-        &mut values,
-        &mut waiting,
-    );
+    let r = play(&text[..n]);
     let s = r.state;
     let c = s.counts;
     say_number(c.rows, b" ");

@@ -8,7 +8,7 @@ use Rattle.merge_run.proofs.merge.Tie as tie
 print-requires : tie.Need-print-requires
 print-requires c κs =
     let at-if1 = c .before .before .before .before .before in
-    let at-receive-all = at-if1 .before .before .before .before .before .before .before in
+    let at-receive-all = at-if1 .before .before in
     took-keeps (at-receive-all .receive-all .ensures) (at-if1 .if1 .taken)
 
 pub merge-spec : {M : Type 1} → statement M
@@ -17,16 +17,7 @@ merge-spec =
     (tie.spec
     (λ c κs. search needs)
     (λ c. search needs)
-    (λ c. search needs)
-    (λ c. search needs)
-    (λ c. search needs)
-    (λ c. search needs)
-    (λ c. search needs)
     (λ c κs. search needs)
-    (λ c. search needs)
-    (λ c. search needs)
-    (λ c. search needs)
-    (λ c. search needs)
     print-requires
     (λ c. search needs)
     (λ c. search needs))

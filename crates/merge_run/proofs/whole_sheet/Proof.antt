@@ -8,7 +8,7 @@ use Rattle.merge_run.proofs.whole_sheet.Tie as tie
 returns : tie.Need-returns
 returns c =
     let at-save = c .before .before .before .before .before in
-    let at-pre = at-save .before .before .before .before .before .before .before .before .before in (
+    let at-pre = at-save .before .before .before .before .before in (
       omega (
         arith,
         fits (at-pre .pre .0 .merged) (at-save .save .ensures) (at-pre .pre .1) _ (c .before .saved .given .1),
@@ -21,7 +21,7 @@ returns c =
 returns-2 : tie.Need-returns-2
 returns-2 c =
     let at-save = c .before .before .before .before in
-    let at-pre = at-save .before .before .before .before .before .before .before .before .before in
+    let at-pre = at-save .before .before .before .before .before in
     absurd (never-short (at-pre .pre .0 .merged) (at-save .save .ensures) (at-pre .pre .1) _ (c .enum-told .given .1))
 
 pub whole-sheet-spec : {M : Type 1} → statement M

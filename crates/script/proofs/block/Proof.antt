@@ -13,13 +13,13 @@ returns c =
     let line = c .before .before .before in
     let name = line .before .before .before .args .name .now in
     no-call _ _ _ (c .no-call .result) (c .no-call .ensures)
-    (no-line name _ _ (line-none name _ _ (line .first-line .result) (not-true _ (c .before .if1 .taken)) (line .first-line .ensures)))
+    (no-line name _ _ (line-none 65536 name _ _ (line .first-line .result) (not-true _ (c .before .if1 .taken)) (line .first-line .ensures)))
 
 add-to : tie.Need-add-to
 add-to c =
     let line = c .before .before .before in
     let start = line .before .before .before in
-    let k = line-took (start .args .name .now) (start .args .s .now) (start .args .a)
+    let k = line-took 65536 (start .args .name .now) (start .args .s .now) (start .args .a)
     (line .first-line .result) (not-false _ (c .before .if1 .left)) (line .first-line .ensures) in
     omega (arith, line-within (start .args .name .now) (start .args .s .now) (start .args .a) _ _ k, start .good .0 .1)
 
@@ -29,7 +29,7 @@ returns-2 c =
     let tested = at-take-byte .before .before in
     let line = tested .before .before in
     let start = line .before .before .before in
-    let k = line-took (start .args .name .now) (start .args .s .now) (start .args .a)
+    let k = line-took 65536 (start .args .name .now) (start .args .s .now) (start .args .a)
     (line .first-line .result) (not-false _ (tested .if1 .left)) (line .first-line .ensures) in
     no-call _ _ _ (c .no-call2 .result) (c .no-call2 .ensures)
     (no-end (start .args .name .now) _ _ _ _ k
@@ -41,7 +41,7 @@ returns-3 c =
     let tested = at-take-byte .before .before in
     let line = tested .before .before in
     let start = line .before .before .before in
-    let k = line-took (start .args .name .now) (start .args .s .now) (start .args .a)
+    let k = line-took 65536 (start .args .name .now) (start .args .s .now) (start .args .a)
     (line .first-line .result) (not-false _ (tested .if1 .left)) (line .first-line .ensures) in
     a-call _ _ _ _ _ k _ (text-took _ (c .before .next .given .1) (at-take-byte .take-byte .ensures))
 

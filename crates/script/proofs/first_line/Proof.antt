@@ -11,8 +11,8 @@ returns : tie.Need-returns
 returns c =
     let name = c .before .before .before in
     let start = name .before .before .before .before in
-    not-asked (start .args .name .now) _ _ (c .not-asked .result) (c .not-asked .ensures)
-    (no-name _ _ _ (text-none _ (c .before .enum-told .given .1) (name .take-text .ensures)))
+    not-asked _ (start .args .name .now) _ _ (c .not-asked .result) (c .not-asked .ensures)
+    (no-name _ _ _ _ (text-none _ (c .before .enum-told .given .1) (name .take-text .ensures)))
 
 returns-2 : tie.Need-returns-2
 returns-2 c =
@@ -20,8 +20,8 @@ returns-2 c =
     let told = number .before .before .before in
     let name = told .before .before in
     let start = name .before .before .before .before in
-    not-asked (start .args .name .now) _ _ (c .not-asked2 .result) (c .not-asked2 .ensures)
-    (no-number _ _ _ _ (text-took _ (told .n .given .1) (name .take-text .ensures))
+    not-asked _ (start .args .name .now) _ _ (c .not-asked2 .result) (c .not-asked2 .ensures)
+    (no-number _ _ _ _ _ (text-took _ (told .n .given .1) (name .take-text .ensures))
     (number-none _ (c .before .enum-told2 .given .1) (number .take-decimal .ensures)))
 
 returns-3 : tie.Need-returns-3
@@ -32,8 +32,8 @@ returns-3 c =
     let told = number .before .before .before in
     let name = told .before .before in
     let start = name .before .before .before .before in
-    not-asked (start .args .name .now) _ _ (c .not-asked3 .result) (c .not-asked3 .ensures)
-    (no-feed _ _ _ _ (text-took _ (told .n .given .1) (name .take-text .ensures))
+    not-asked _ (start .args .name .now) _ _ (c .not-asked3 .result) (c .not-asked3 .ensures)
+    (no-feed _ _ _ _ _ (text-took _ (told .n .given .1) (name .take-text .ensures))
     _ _ (number-took _ (value .value .given .1) (number .take-decimal .ensures))
     (text-none _ (c .before .enum-told3 .given .1) (feed .take-byte .ensures)))
 
@@ -44,7 +44,7 @@ returns-4 c =
     let number = value .before .before in
     let told = number .before .before .before in
     let name = told .before .before in
-    a-line _ _ _ _ (text-took _ (told .n .given .1) (name .take-text .ensures))
+    a-line _ _ _ _ _ (text-took _ (told .n .given .1) (name .take-text .ensures))
     _ _ (number-took _ (value .value .given .1) (number .take-decimal .ensures))
     _ (text-took _ (c .before .next .given .1) (feed .take-byte .ensures))
 

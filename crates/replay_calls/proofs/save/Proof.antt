@@ -3,8 +3,8 @@ use mathlib.Core.Path.{sym}
 use native.Mathlib.Omega.{arith}
 use lib.Seq.{length-take-le}
 use borrow.Author.Needs.{needs}
-use Rattle.replay.proofs.save.Statement.{statement}
-use Rattle.replay.proofs.save.Tie as tie
+use Rattle.replay_calls.proofs.save.Statement.{statement}
+use Rattle.replay_calls.proofs.save.Tie as tie
 
 pub save-spec : {M : Type 1} → statement M
 save-spec =

@@ -2,8 +2,8 @@
 use Prim.Native.Nat.{_-_}
 use lib.ListN.{length}
 use borrow.Author.Needs.{needs}
-use Rattle.replay.proofs.say_rest.Statement.{statement}
-use Rattle.replay.proofs.say_rest.Tie as tie
+use Rattle.replay_calls.proofs.say_rest.Statement.{statement}
+use Rattle.replay_calls.proofs.say_rest.Tie as tie
 
 abbrev Inv-loop : tie.InvT-loop
 Inv-loop buf from i₀ t4 t5 i = Unit {0}
