@@ -1,7 +1,7 @@
 -- What `clear_row` leaves, whatever the tables hold: a row that says more words than there are is gone over, any other cleared
 -- (proofs/Steps).
 -- Assumes nothing.
-use Prim.Native.Nat.{ℕ, _+_, _*_, _-_, _/_, _%_, _≤_, _<_}
+use Prim.Native.Nat.{ℕ, _+_, _*_, _-_, _/_, _≤_, _<_}
 use native.Mathlib.Omega.{arith}
 use mathlib.Core.Path.{_≡_, refl, ap, subst, _∙_}
 use mathlib.Core.List.{List, [], _∷_, _++_}
@@ -14,6 +14,7 @@ use Rattle.rows.specs.Blocks.{clearRow}
 use Rattle.words.specs.Words.{run}
 use Rattle.words.specs.Rows.{keepRows, Kept}
 use Rattle.tables.specs.Words.{marksAt, valuesAt, eachValue}
+use Rattle.tables.specs.Heads.{withCounts}
 use Rattle.tables.specs.Finds.{marks-in, values-in}
 use Rattle.tables.specs.declared.Counts.{Counts}
 use Rattle.clear.specs.declared.Cursor.{Cursor}
@@ -60,14 +61,12 @@ module _ (d h m v : List ℕ) (p : Cursor) (S : In (passing h m v p)) (n k : ℕ
   abbrev beyond : ℕ → ℕ → Cursor
   beyond to end = record { row = p .row + 1; mark = p .mark + n; marked = to; value = p .value + k * 6; valued = end }
 
-  abbrev newHead : ℕ → ℕ → ℕ → ℕ
-  newHead to end w = w % 128 + 128 * (to - p .marked) + 262144 * ((end - p .valued) / 6)
-
-  pub row-done : (to end : ℕ) (m′ v′ : List ℕ) → p .mark + n ≤ length m → p .value + k * 6 ≤ length v
+  pub row-done : (to end w : ℕ) (m′ v′ : List ℕ) → p .mark + n ≤ length m → p .value + k * 6 ≤ length v
       → Kept (p .marked) n (keep (uncovered d) (run (p .mark) n m)) m to m′
       → Kept (p .valued) (k * 6) (keepRows 6 (uncovered d) k (drop (p .value) v)) v end v′ → length m′ ≡ length m → length v′ ≡ length v
-      → ClearsRow d (passing h m v p) (passing (set h (p .row) (newHead to end (getD h (p .row) 0))) m′ v′ (beyond to end))
-  row-done to end m′ v′ e f K L s t = record {
+      → w ≡ withCounts (getD h (p .row) 0) (to - p .marked) ((end - p .valued) / 6)
+      → ClearsRow d (passing h m v p) (passing (set h (p .row) w) m′ v′ (beyond to end))
+  row-done to end w m′ v′ e f K L s t W = record {
     next = refl;
     within = record {
       marks-low = omega (arith, K .high, S .marks-low);
@@ -79,7 +78,7 @@ module _ (d h m v : List ℕ) (p : Cursor) (S : In (passing h m v p)) (n k : ℕ
   }
     where
       go : (c : Counts) (A us : List Row) (r : Row) → WithGap c h m v p A (r ∷ us)
-          → WithGap c (set h (p .row) (newHead to end (getD h (p .row) 0))) m′ v′ (beyond to end) (A ++ clearRow d r ∷ []) us
+          → WithGap c (set h (p .row) w) m′ v′ (beyond to end) (A ++ clearRow d r ∷ []) us
       go c A us r G =
           let x = marks-looked c A us r G in
           let y = values-looked c A us r G in
@@ -89,5 +88,4 @@ module _ (d h m v : List ℕ) (p : Cursor) (S : In (passing h m v p)) (n k : ℕ
           let Q : Kept (p .valued) (length (r .values) * 6) (eachValue (clearValues d (r .values))) v end v′ =
           subst (λ l. Kept (p .valued) (length (r .values) * 6) l v end v′) (values-kept c h m v p A us r G d)
           (subst (λ k. Kept (p .valued) (k * 6) (keepRows 6 (uncovered d) k (drop (p .value) v)) v end v′) y L) in
-          row-cleared c h m v p A us r G d to end m′ v′ P Q _ _ (ap (λ w. set h (p .row) (newHead to end w)) (head-here c h m v p A us r G))
-          (rw (x, y))
+          row-cleared c h m v p A us r G d to end m′ v′ P Q w _ W (rw (x, y))

@@ -1,6 +1,6 @@
 -- One row cleared: its marks and values that stay are moved down to those before them, and its head says how many they are.
 -- Assumes nothing.
-use Prim.Native.Nat.{ℕ, _+_, _*_, _-_, _/_, _%_, _≤_}
+use Prim.Native.Nat.{ℕ, _+_, _*_, _-_, _/_, _≤_}
 use native.Mathlib.Omega.{arith}
 use mathlib.Core.Path.{_≡_, refl, sym, ap, _∙_}
 use mathlib.Core.List.{List, [], _∷_, _++_, append-assoc, append-nil}
@@ -18,10 +18,12 @@ use Rattle.words.specs.Rows.{keepRows, Kept}
 use Rattle.words.proofs.Over.{over-parts, run-parts}
 use Rattle.words.proofs.Flat.{flat-keep}
 use Rattle.tables.specs.Words.{headWord, valueWords, eachValue, headsOf, marksOf, valuesOf}
-use Rattle.tables.specs.Finds.{bit-small, side-small, Narrow}
+use Rattle.tables.specs.Heads.{withCounts}
+use Rattle.tables.specs.Finds.{Narrow}
 use Rattle.tables.specs.Standing.{heads-length}
 use Rattle.tables.specs.Holding.{headsRoom, marksRoom, valuesRoom, Good}
 use Rattle.tables.specs.Parts.{marks-of-append, values-of-append, each-length, heads-parts}
+use Rattle.tables.specs.Rewritten.{counts-word}
 use Rattle.tables.specs.Values.{strides-value, each-flat}
 use Rattle.tables.specs.declared.Counts.{Counts}
 use Rattle.clear.specs.declared.Cursor.{Cursor}
@@ -45,11 +47,6 @@ good-clear d r g = record {
   marks = asc-keep own (λ i. uncovered d i) (r .marks) (g .marks);
   values = asc-keep idOfValue (λ v. uncovered d (v .id)) (r .values) (g .values);
 }
-
-clear-head : (d : List ℕ) (r : Row) → Narrow r
-    → headWord (clearRow d r) ≡ headWord r % 128 + 128 * length (clearMarks d (r .marks)) + 262144 * length (clearValues d (r .values))
-clear-head d r n =
-    omega (arith, n .depth, side-small (r .spot), bit-small (r .map), bit-small (r .list))
 
 -- The row at the cursor.
 module _ (c : Counts) (h m v : List ℕ) (p : Cursor) (A us : List Row) (r : Row) (G : WithGap c h m v p A (r ∷ us)) where
@@ -149,12 +146,7 @@ module _ (c : Counts) (h m v : List ℕ) (p : Cursor) (A us : List Row) (r : Row
     gap-values′ : List ℕ
     gap-values′ = drop (length (eachValue (clearValues d (r .values)))) (G .gap-values ++ eachValue (r .values))
 
-    counts-right : headWord r % 128 + 128 * (to - p .marked) + 262144 * ((end - p .valued) / 6) ≡ headWord (clearRow d r)
-    counts-right =
-        omega (arith, clear-head d r narrow-here, K .next, L .next, each-length (clearValues d (r .values)))
-
-    pub row-cleared : (h′ : List ℕ) (q : Cursor)
-        → h′ ≡ set h (p .row) (headWord r % 128 + 128 * (to - p .marked) + 262144 * ((end - p .valued) / 6))
+    pub row-cleared : (w : ℕ) (q : Cursor) → w ≡ withCounts (getD h (p .row) 0) (to - p .marked) ((end - p .valued) / 6)
         → q ≡ record {
           row = p .row + 1;
           mark = p .mark + length (r .marks);
@@ -162,9 +154,13 @@ module _ (c : Counts) (h m v : List ℕ) (p : Cursor) (A us : List Row) (r : Row
           value = p .value + length (r .values) * 6;
           valued = end;
         }
-        → WithGap c h′ m′ v′ q (A ++ clearRow d r ∷ []) us
+        → WithGap c (set h (p .row) w) m′ v′ q (A ++ clearRow d r ∷ []) us
     unfolding gap′ gap-values′
-    row-cleared h′ q e f =
+    row-cleared w q e f =
+        let n : to - p .marked ≡ length (clearMarks d (r .marks)) = omega (arith, K .next) in
+        let k : (end - p .valued) / 6 ≡ length (clearValues d (r .values)) = omega (arith, L .next, each-length (clearValues d (r .values))) in
+        let o : w ≡ headWord (clearRow d r) =
+        e ∙ rw (n, k, head-here) (counts-word r (narrow-here .depth) (clearMarks d (r .marks)) (clearValues d (r .values))) in
         let a = ap length (marks-after d) ∙ length-append (marksOf A) (clearMarks d (r .marks)) in
         let b = ap length (values-after d) ∙ length-append (valuesOf A) (eachValue (clearValues d (r .values))) in
         let g = length-drop (length (clearMarks d (r .marks))) (G .gap ++ r .marks) in
@@ -179,15 +175,15 @@ module _ (c : Counts) (h m v : List ℕ) (p : Cursor) (A us : List Row) (r : Row
         record {
           gap = gap′;
           gap-values = gap-values′;
-          heads = e ∙ (rw (
+          heads = rw (
             G .heads ∙ heads-parts A r us (replicate (headsRoom - c .rows) 0),
-            counts-right,
+            o,
             append-assoc A
                 (clearRow d r ∷ []) us,
           )
               (set-at (headsOf A) (headWord r) (headsOf us ++ replicate (headsRoom - c .rows) 0) (headWord (clearRow d r)) (p .row)
               (heads-length A ∙ sym (G .row-is))
-              ∙ sym (heads-parts A (clearRow d r) us (replicate (headsRoom - c .rows) 0))));
+              ∙ sym (heads-parts A (clearRow d r) us (replicate (headsRoom - c .rows) 0)));
           marks = K .table ∙ (rw (
             G .marks,
             marks-behind,

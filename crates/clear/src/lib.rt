@@ -3,7 +3,10 @@
 // before them, and at the end what stands behind the block is moved once.
 use meaning::Counters;
 use tables::Counts;
+use tables::DEEPEST;
 use tables::Position;
+use tables::head_in;
+use tables::with_counts;
 use words::close;
 use words::keep_marks;
 use words::keep_values;
@@ -35,8 +38,9 @@ fn clear_row(
     let row = p.row;
     let next = row + 1;
     let h = heads[row];
-    let n = (h / 128 % 2048) as usize;
-    let k = (h / 262144 % 512) as usize;
+    let head = head_in(h);
+    let n = head.marks;
+    let k = head.values;
     let from = p.mark;
     let start = p.value;
     let words = k * 6;
@@ -55,9 +59,9 @@ fn clear_row(
     }
     let to = keep_marks(marks, from, n, p.marked, d);
     let end = keep_values(values, start, k, p.valued, d);
-    let stay = (to - p.marked) as u64;
-    let values_stay = ((end - p.valued) / 6) as u64;
-    heads[row] = h % 128 + 128 * stay + 262144 * values_stay;
+    let stay = to - p.marked;
+    let values_stay = (end - p.valued) / 6;
+    heads[row] = with_counts(h, stay, values_stay);
     let read = from + n;
     let values_read = start + words;
     Cursor {
@@ -77,14 +81,14 @@ fn clear_place(
     rows: usize,
     p: Cursor,
     d: Counters,
-    left: usize,
+    left: u64,
 ) -> Cursor
     requires { ⌜ Starts rows (passing (now heads) (now marks) (now values) p) × (p .row < rows) ⌝ }
     ensures { λ r. ⌜ ClearsPlace (d .at) rows left (passing (now (heads .entry)) (now (marks .entry)) (now (values .entry)) p)
         (passing (now (heads .exit)) (now (marks .exit)) (now (values .exit)) r) ⌝ }
 {
     let row = p.row;
-    let n = heads[row] % 16;
+    let n = head_in(heads[row]).depth;
     let q = clear_row(heads, marks, values, p, d);
     clear_branch(heads, marks, values, rows, q, d, n, left)
 }
@@ -98,7 +102,7 @@ fn clear_branch(
     p: Cursor,
     d: Counters,
     n: u64,
-    left: usize,
+    left: u64,
 ) -> Cursor
     requires { ⌜ Starts rows (passing (now heads) (now marks) (now values) p) ⌝ }
     ensures { λ r. ⌜ ClearsBranch (d .at) rows n left (passing (now (heads .entry)) (now (marks .entry)) (now (values .entry)) p)
@@ -110,7 +114,7 @@ fn clear_branch(
     let mut q = p;
     while q.row < rows {
         let row = q.row;
-        if heads[row] % 16 <= n {
+        if head_in(heads[row]).depth <= n {
             return q;
         }
         q = clear_place(heads, marks, values, rows, q, d, left - 1);
@@ -161,7 +165,7 @@ pub fn clear_block(
         value: value,
         valued: value,
     };
-    let q = clear_place(heads, marks, values, rows, p, d, 8);
+    let q = clear_place(heads, marks, values, rows, p, d, DEEPEST);
     if q.mark > live {
         return c;
     }

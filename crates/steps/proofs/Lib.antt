@@ -1,4 +1,3 @@
-pub mod Heads
 pub mod Flags
 pub mod Opened
 pub mod Marked

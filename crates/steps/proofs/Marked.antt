@@ -18,6 +18,7 @@ use Rattle.words.proofs.Flat.{alone, flat-own, strides-own}
 use Rattle.words.specs.Gap.{Gap}
 use Rattle.words.proofs.Gap.{gap-open, gap-run, gap-put, zeros-behind}
 use Rattle.tables.specs.Words.{headWord, marksAt, marksOf, pad, Tables}
+use Rattle.tables.specs.Heads.{withMark}
 use Rattle.tables.specs.Holding.{marksRoom, valuesRoom, Holds}
 use Rattle.tables.specs.Parts.{at-behind, marks-length, marks-long, marks-of-append, marks-parts}
 use Rattle.tables.specs.declared.Counts.{Counts}
@@ -61,21 +62,22 @@ pub holds-gap : (g : ℕ) (T : Tables) (c : Counts) (rs : List Row) → Holds T 
     → Gap g (c .marks) (T .marks) (T .marks)
 holds-gap g T c rs H h = gap-open g (c .marks) (T .marks) (omega (arith, marks-long T c rs H)) (holds-zeros T c rs H)
 
-pub marks : (s : Position) (id n k p g : ℕ) (c : Counts) (h m m₁ : List ℕ) → s .mark ≤ p → n ≤ p - s .mark
+pub marks : (s : Position) (id n k p g w : ℕ) (c : Counts) (h m m₁ : List ℕ) → s .mark ≤ p → n ≤ p - s .mark
     → n ≡ marksAt (getD h (s .row) 0) → Ranked n (rankOf own id (run (s .mark) n m)) k → m₁ ≡ opened p (s .mark + k) g m
+    → w ≡ withMark (getD h (s .row) 0)
     → Marks s id c p g h m (record { rows = c .rows; marks = c .marks + 1; values = c .values }) (s .mark + k)
-    (set h (s .row) (getD h (s .row) 0 + 128)) (set m₁ (s .mark + k + g - 1) id)
+    (set h (s .row) w) (set m₁ (s .mark + k + g - 1) id)
 unfolding Marks
-marks s id n k p g c h m m₁ b d x K o keys t v A R r G H e u l some low =
+marks s id n k p g w c h m m₁ b d x K o W keys t v A R r G H e u l some low =
     let a = at-behind s A e in
     let P = placed _ c s A R r H e in
     let f = P .good .marks in
     let y : n ≡ length (r .marks) = x ∙ P .marks in
-    let w : run (s .mark) n m ≡ r .marks =
+    let j : run (s .mark) n m ≡ r .marks =
     gap-run g p (s .mark) n m t G (omega arith) ∙ rw y (marks-here A R r t (H .marks) (s .mark) (a .mark)) in
-    let q : k ≡ rankOf own id (r .marks) = K .is ∙ ap (rankOf own id) w in
+    let q : k ≡ rankOf own id (r .marks) = K .is ∙ ap (rankOf own id) j in
     let i : length (put own id (r .marks)) ≡ length (r .marks) + 1 = put-more own id (r .marks) f u in
-    let z : getD h (s .row) 0 + 128 ≡ headWord (markRow id r) = omega (arith, P .head) in
+    let z : w ≡ headWord (markRow id r) = omega (arith, P .head) in
     let M = mark-put A R r t (H .marks) (s .mark) (a .mark) id k (c .marks) f u q (H .marks-are) l in
     record {
       table = inserted (c .marks) (s .mark + k) (id ∷ []) t;

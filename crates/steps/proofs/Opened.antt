@@ -12,12 +12,14 @@ use Rattle.words.specs.Words.{overAt, opened, inserted}
 use Rattle.words.proofs.Over.{open-write}
 use Rattle.words.proofs.Tables.{open-one}
 use Rattle.tables.specs.Words.{headWord, spotWords, eachValue, headsOf, keysOf, marksOf, valuesOf, pad}
+use Rattle.tables.specs.Heads.{newHead}
 use Rattle.tables.specs.Standing.{heads-append, keys-append, heads-length, keys-length}
 use Rattle.tables.specs.Holding.{headsRoom, keysRoom, marksRoom, valuesRoom, Good, Holds, four}
 use Rattle.tables.specs.Parts.{marks-of-append, values-of-append, all-left, all-right, all-both, heads-long, keys-long}
 use Rattle.tables.specs.declared.Counts.{Counts}
 use Rattle.steps.specs.Steps.{Opens}
 use Rattle.tables.specs.Changed.{marks-between, values-between, rows-between}
+use Rattle.tables.specs.Rewritten.{new-word}
 use Rattle.words.proofs.Padded.{inserted-pad}
 
 -- Among rows that tables hold there is room for one more.
@@ -70,19 +72,20 @@ module _ (A R : List Row) (r : Row) where
   values-stay e =
       values-of-append A R ∙ (ap (λ l. valuesOf A ++ (eachValue l ++ valuesOf R)) (sym e) ∙ sym (values-of-append A (r ∷ R)))
 
-pub opens : (at depth s hi lo len : ℕ) (c : Counts) (h h₁ k k₁ k₂ : List ℕ) → at ≤ c .rows → c .rows < length h → 3 * c .rows + 3 ≤ length k
+pub opens : (at depth s hi lo len head : ℕ) (c : Counts) (h h₁ k k₁ k₂ : List ℕ) → at ≤ c .rows → c .rows < length h → 3 * c .rows + 3 ≤ length k
     → h₁ ≡ opened (c .rows) at 1 h → k₁ ≡ opened (3 * c .rows) (3 * at) 3 k → k₂ ≡ overAt (3 * at) (hi ∷ lo ∷ len ∷ []) k₁
+    → head ≡ newHead depth s
     → Opens at depth s (hi ∷ lo ∷ len ∷ []) c h k (record { rows = c .rows + 1; marks = c .marks; values = c .values })
-    (set h₁ at (depth + 16 * s)) k₂
+    (set h₁ at head) k₂
 unfolding Opens
-opens at depth s hi lo len c h h₁ k k₁ k₂ a b d z e f m v A R p H x l n g w t =
+opens at depth s hi lo len head c h h₁ k k₁ k₂ a b d z e f o m v A R p H x l n g w t =
     let r : Row = newRow depth p in
     let u : List ℕ = hi ∷ lo ∷ len ∷ [] in
-    let hw : depth + 16 * s ≡ headWord r = rw t (omega arith) in
+    let hw : head ≡ headWord r = o ∙ rw t (new-word depth p) in
     let q = length-append A R in
     record {
       heads =
-          ap (λ (l : List ℕ). set l at (depth + 16 * s)) z ∙ (open-one (c .rows) at (depth + 16 * s) h a (omega arith)
+          ap (λ (l : List ℕ). set l at head) z ∙ (open-one (c .rows) at head h a (omega arith)
           ∙ rw hw (heads-opened A R r h at (c .rows) (H .heads) x (H .rows-are) l));
       keys =
           f ∙ (ap (overAt (3 * at) u) e

@@ -12,17 +12,14 @@ use Rattle.meaning.specs.Members.{Has, own}
 use Rattle.meaning.specs.Sheet.{Spot, Row}
 use Rattle.rows.specs.Blocks.{newRow, markRow}
 use Rattle.words.specs.Gap.{Gap, Leaves}
-use Rattle.tables.specs.Words.{side, headWord, spotWords}
+use Rattle.tables.specs.Words.{side, spotWords}
 use Rattle.tables.specs.Finds.{GoodSpot}
 use Rattle.tables.specs.Standing.{behind}
 use Rattle.tables.specs.Holding.{Holds, four, flagRow}
 use Rattle.tables.specs.declared.Counts.{Counts}
 use Rattle.tables.specs.declared.Position.{Position}
 
--- the head's word w of a row becomes w′: the flag of the list, or of the map, is set
-unfoldable pub FlagsHead : Bool → ℕ → ℕ → Type 0
-FlagsHead list w w′ = (r : Row) → r .depth < 16 → w ≡ headWord r → w′ ≡ headWord (flagRow list r)
-
+-- the flag of the list, or of the map, is set
 unfoldable pub Flags : Bool → ℕ → List ℕ → List ℕ → Type 0
 Flags list row h h′ =
     (k m v : List ℕ) (c : Counts) (A R : List Row) (r : Row) → Holds (four h k m v) c (A ++ r ∷ R) → row ≡ length A

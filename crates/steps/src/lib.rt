@@ -1,30 +1,20 @@
 // The single steps over the document's tables that open a row, mark it or set a flag. Each is safe on any memory: a place, a
 // count or a table that doesn't fit is found before the first word is written. What they promise of tables that hold rows says specs/Steps.
 use tables::Counts;
+use tables::DEEPEST;
+use tables::LIST;
+use tables::MARKS_ROOM;
 use tables::Position;
+use tables::ROWS_ROOM;
+use tables::head_in;
+use tables::new_head;
+use tables::with_flag;
+use tables::with_mark;
 use words::open;
 use words::rank;
 use words::write3;
-ghost use mathlib.Core.Path.{_≡_};
 ghost use mathlib.Core.List.{[], _∷_};
-ghost use Rattle.tables.specs.Words.{marksAt};
-ghost use Rattle.steps.specs.Steps.{FlagsHead, Flags, Opens, Marks};
-
-// A head's word with the flag of the list, or of the map.
-fn flagged(h: u64, list: bool) -> u64
-    ensures { λ r. ⌜ FlagsHead list h r ⌝ }
-{
-    if list {
-        if h / 64 % 2 == 1 {
-            return h;
-        }
-        return h + 64;
-    }
-    if h / 32 % 2 == 1 {
-        return h;
-    }
-    h + 32
-}
+ghost use Rattle.steps.specs.Steps.{Flags, Opens, Marks};
 
 // Sets the flag of a row's list, or of its map.
 pub fn flag_row(heads: &mut [u64], row: usize, list: bool)
@@ -34,7 +24,7 @@ pub fn flag_row(heads: &mut [u64], row: usize, list: bool)
         return;
     }
     let h = heads[row];
-    heads[row] = flagged(h, list);
+    heads[row] = with_flag(h, list);
 }
 
 // Opens a row without flags, marks and values before row `at`.
@@ -53,16 +43,16 @@ pub fn open_row(
         ⌜ Opens at depth side (hi ∷ lo ∷ len ∷ []) c (now (heads .entry)) (now (keys .entry)) r (now (heads .exit)) (now (keys .exit)) ⌝ }
 {
     let rows = c.rows;
-    if rows >= 264 {
+    if rows >= ROWS_ROOM {
         return c;
     }
     if at > rows {
         return c;
     }
-    if depth > 8 {
+    if depth > DEEPEST {
         return c;
     }
-    if side > 1 {
+    if side > LIST {
         return c;
     }
     if heads.len() <= rows {
@@ -72,7 +62,7 @@ pub fn open_row(
         return c;
     }
     open(heads, rows, at, 1);
-    heads[at] = depth + 16 * side;
+    heads[at] = new_head(depth, side);
     open(keys, 3 * rows, 3 * at, 3);
     write3(keys, 3 * at, hi, lo, len);
     Counts {
@@ -80,13 +70,6 @@ pub fn open_row(
         marks: c.marks,
         values: c.values,
     }
-}
-
-// How many marks a row has, by its head's word.
-fn marks_of(h: u64) -> usize
-    ensures { λ r. ⌜ r ≡ marksAt h ⌝ }
-{
-    (h / 128 % 2048) as usize
 }
 
 // The counts of tables whose marks have a gap in them, and where it stands.
@@ -115,7 +98,7 @@ pub fn mark_row(
     if row >= heads.len() {
         return WithGap { counts: c, gap };
     }
-    if live >= 1032 {
+    if live >= MARKS_ROOM {
         return WithGap { counts: c, gap };
     }
     if g == 0 {
@@ -128,10 +111,10 @@ pub fn mark_row(
         return WithGap { counts: c, gap };
     }
     let h = heads[row];
-    if h >= 134217728 {
+    let n = head_in(h).marks;
+    if n >= MARKS_ROOM {
         return WithGap { counts: c, gap };
     }
-    let n = marks_of(h);
     if from > gap {
         return WithGap { counts: c, gap };
     }
@@ -142,7 +125,7 @@ pub fn mark_row(
     let at = from + k;
     open(marks, gap, at, g);
     marks[at + g - 1] = id;
-    heads[row] = h + 128;
+    heads[row] = with_mark(h);
     WithGap {
         counts: Counts {
             rows: c.rows,

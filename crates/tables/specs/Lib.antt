@@ -8,6 +8,7 @@ pub mod Holding
 pub mod Parts
 pub mod Stands
 pub mod Changed
+pub mod Rewritten
 pub mod Placed
 pub mod Values
 pub mod Saying

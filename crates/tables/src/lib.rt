@@ -7,7 +7,8 @@ ghost use mathlib.Core.Path.{_≡_};
 ghost use Prim.Native.Nat.{_+_, _*_, _-_, _≤_, _<_};
 ghost use lib.ListN.{length, getD};
 ghost use Rattle.tables.specs.Seek.{turn, turnNumber, passesOne, goesOver, isSought, Passes, Searches, holdsIf, sought};
-ghost use Rattle.tables.specs.Heads.{headIn, keyAt};
+ghost use Rattle.tables.specs.Words.{marksAt};
+ghost use Rattle.tables.specs.Heads.{headIn, newHead, withFlag, withMark, withCounts, keyAt};
 ghost use Rattle.tables.specs.Holding.{withinTables};
 ghost use Rattle.tables.specs.Wants.{searchOf};
 ghost use Rattle.tables.specs.Stands.{FindsIn, Knows};
@@ -27,6 +28,9 @@ pub const ROWS_ROOM: usize = 264;
 pub const MARKS_ROOM: usize = 1032;
 
 pub const VALUES_ROOM: usize = 257;
+
+// The deepest depth of a place.
+pub const DEEPEST: u64 = 8;
 
 // A place in the tables: a row, and how many marks and values the rows before it have.
 pub struct Position {
@@ -111,6 +115,46 @@ pub fn head_at(heads: &[u64], row: usize) -> Head
     ensures { λ r. ⌜ r ≡ headIn (getD (now (heads .entry)) row 0) ⌝ }
 {
     head_in(word(heads, row))
+}
+
+// The head's word of a row without flags, marks and values.
+pub fn new_head(depth: u64, side: u64) -> u64
+    requires { ⌜ (depth < 16) × (side < 2) ⌝ }
+    ensures { λ r. ⌜ r ≡ newHead depth side ⌝ }
+{
+    depth + 16 * side
+}
+
+// A head's word with the flag of the list, or of the map.
+pub fn with_flag(h: u64, list: bool) -> u64
+    ensures { λ r. ⌜ r ≡ withFlag list h ⌝ }
+{
+    if list {
+        if h / 64 % 2 == 1 {
+            return h;
+        }
+        return h + 64;
+    }
+    if h / 32 % 2 == 1 {
+        return h;
+    }
+    h + 32
+}
+
+// A head's word with a mark more.
+pub fn with_mark(h: u64) -> u64
+    requires { ⌜ marksAt h < 2047 ⌝ }
+    ensures { λ r. ⌜ r ≡ withMark h ⌝ }
+{
+    h + 128
+}
+
+// A head's word with so many marks and values.
+pub fn with_counts(h: u64, marks: usize, values: usize) -> u64
+    requires { ⌜ (marks < 2048) × (values < 512) ⌝ }
+    ensures { λ r. ⌜ r ≡ withCounts h marks values ⌝ }
+{
+    h % 128 + 128 * marks as u64 + 262144 * values as u64
 }
 
 // The key of a row; behind the tables' end that of three words 0.

@@ -4,22 +4,16 @@ use counters::covered;
 use meaning::Counters;
 use tables::Counts;
 use tables::Position;
+use tables::VALUES_ROOM;
+use tables::head_in;
+use tables::with_counts;
 use words::close;
 use words::keep_values;
 use words::open;
 use words::rank_values;
 use words::write_words;
-ghost use mathlib.Core.Path.{_≡_};
 ghost use mathlib.Core.List.{_∷_};
-ghost use Rattle.tables.specs.Words.{valuesAt};
 ghost use Rattle.values.specs.Values.{Drops, Adds, HasOne, Sets};
-
-// How many values a row has, by its head's word.
-fn values_of(h: u64) -> usize
-    ensures { λ r. ⌜ r ≡ valuesAt h ⌝ }
-{
-    (h / 262144 % 512) as usize
-}
 
 // Drops a row's values that d covers.
 fn drop_values(heads: &mut [u64], values: &mut [u64], c: Counts, s: Position, d: Counters) -> Counts
@@ -31,14 +25,15 @@ fn drop_values(heads: &mut [u64], values: &mut [u64], c: Counts, s: Position, d:
     if row >= heads.len() {
         return c;
     }
-    if live > 257 {
+    if live > VALUES_ROOM {
         return c;
     }
     if values.len() < 6 * live {
         return c;
     }
     let h = heads[row];
-    let n = values_of(h);
+    let head = head_in(h);
+    let n = head.values;
     if first > live {
         return c;
     }
@@ -48,12 +43,12 @@ fn drop_values(heads: &mut [u64], values: &mut [u64], c: Counts, s: Position, d:
     let from = 6 * first;
     let end = keep_values(values, from, n, from, d);
     close(values, 6 * live, from + n * 6, end);
-    let gone = n - (end - from) / 6;
-    heads[row] = h - 262144 * gone as u64;
+    let stay = (end - from) / 6;
+    heads[row] = with_counts(h, head.marks, stay);
     Counts {
         rows: c.rows,
         marks: c.marks,
-        values: live - gone,
+        values: live - (n - stay),
     }
 }
 
@@ -75,17 +70,15 @@ fn add_value(
     if row >= heads.len() {
         return c;
     }
-    if live >= 257 {
+    if live >= VALUES_ROOM {
         return c;
     }
     if values.len() < 6 * live + 6 {
         return c;
     }
     let h = heads[row];
-    if h >= 134217728 {
-        return c;
-    }
-    let n = values_of(h);
+    let head = head_in(h);
+    let n = head.values;
     if first > live {
         return c;
     }
@@ -101,7 +94,7 @@ fn add_value(
         at,
         [id, kind, words[0], words[1], words[2], words[3]],
     );
-    heads[row] = h + 262144;
+    heads[row] = with_counts(h, head.marks, n + 1);
     Counts {
         rows: c.rows,
         marks: c.marks,
@@ -117,11 +110,11 @@ fn has_one(heads: &[u64], values: &[u64], s: Position, d: Counters) -> bool
     if row >= heads.len() {
         return false;
     }
-    if values_of(heads[row]) != 1 {
+    if head_in(heads[row]).values != 1 {
         return false;
     }
     let first = s.value;
-    if first > 256 {
+    if first >= VALUES_ROOM {
         return false;
     }
     let from = 6 * first;

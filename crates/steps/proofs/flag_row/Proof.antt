@@ -22,4 +22,4 @@ flag-row-spec =
     (λ c. search needs)
     (λ c. search needs)
     (λ c. search needs)
-    (λ c. flags _ _ _ _ (c .flagged .ensures)))
+    (λ c. flags _ _ _ _ (c .with-flag .ensures)))

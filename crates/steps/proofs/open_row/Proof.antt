@@ -35,11 +35,11 @@ returns-7 : tie.Need-returns-7
 returns-7 c =
     let k = c .before .before in
     let o = k .before .before .before .before in
-    let h = o .before .before .before .before in
+    let n = o .before .before in
+    let h = n .before .before .before in
     let g = h .before .before in
-    opens _ _ _ _ _ _ _ _ _ _ _ _ (g .before .before .before .before .if2 .left) (g .before .if5 .left) (g .if6 .left)
-    (h .«open» .ensures) (o .open2 .ensures)
-    (k .write3 .ensures)
+    opens _ _ _ _ _ _ _ _ _ _ _ _ _ (g .before .before .before .before .if2 .left) (g .before .if5 .left) (g .if6 .left)
+    (h .«open» .ensures) (o .open2 .ensures) (k .write3 .ensures) (n .new-head .ensures)
 
 pub open-row-spec : {M : Type 1} → statement M
 open-row-spec =
@@ -54,8 +54,7 @@ open-row-spec =
     (λ c. search needs)
     returns-6
     (λ c κs. search needs)
-    (λ c. search needs)
-    (λ c. search needs)
+    (λ c κs. search needs)
     (λ c. search needs)
     (λ c. search needs)
     (λ c. search needs)

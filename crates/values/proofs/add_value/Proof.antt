@@ -2,6 +2,7 @@
 use native.Mathlib.Omega.{arith}
 use borrow.Author.Needs.{needs}
 use Rattle.values.specs.Values.{Adds}
+use Rattle.tables.specs.Heads.{marks-said, values-said}
 use Rattle.tables.specs.Placed.{placed}
 use Rattle.values.proofs.Added.{adds}
 use Rattle.values.proofs.add_value.Statement.{statement}
@@ -21,28 +22,30 @@ returns-3 c k m A R r x H t u l w = absurd (omega (arith, placed _ _ _ A R r H t
 
 returns-4 : tie.Need-returns-4
 unfolding Adds
-returns-4 c k m A R r x H t u l w = absurd (omega (arith, placed _ _ _ A R r H t .small, c .if4 .taken))
+returns-4 c k m A R r x H t u l w = absurd (omega (arith, placed _ _ _ A R r H t .values-low, c .if4 .taken))
 
 returns-5 : tie.Need-returns-5
 unfolding Adds
-returns-5 c k m A R r x H t u l w = absurd (omega (arith, placed _ _ _ A R r H t .values-low, c .if5 .taken))
+returns-5 c k m A R r x H t u l w =
+    let p = placed _ _ _ A R r H t in
+    absurd (omega (arith, p .values-low, p .values, values-said (c .before .before .head-in .ensures), c .if5 .taken))
+
+with-counts-requires : tie.Need-with-counts-requires
+with-counts-requires c κs =
+    let at-if5 = c .before .before .before .before .before .before .before .before .before .before in
+    let at-head = at-if5 .before .before in
+    let at-if2 = at-head .before .before .before in
+    (omega (arith, marks-said (at-head .head-in .ensures)), omega (arith, at-if5 .if5 .left, at-if2 .if2 .left))
 
 returns-6 : tie.Need-returns-6
-unfolding Adds
-returns-6 c k m A R r x H t u l w =
-    let p = placed _ _ _ A R r H t in
-    absurd (omega (arith, p .values-low, p .values, c .before .before .values-of .ensures, c .if6 .taken))
-
-returns-7 : tie.Need-returns-7
-returns-7 c =
-    let w = c .before .before in
+returns-6 c =
+    let w = c .before .before .before in
     let o = w .before .before .before .before in
     let k = o .before .before in
     let g = k .before .before in
     let n = g .before .before in
-    adds _ _ _ _ _ _ _ _ _ _ _ (n .before .before .before .if3 .left) (g .before .if5 .left) (g .if6 .left) (n .values-of .ensures)
-    (k .rank-values .ensures)
-    (o .«open» .ensures) (w .write-words .ensures)
+    adds _ _ _ _ _ _ _ _ _ _ _ _ (n .before .before .if3 .left) (g .before .if4 .left) (g .if5 .left)
+    (n .head-in .ensures) (k .rank-values .ensures) (o .«open» .ensures) (w .write-words .ensures) (c .with-counts .ensures)
 
 pub add-value-spec : {M : Type 1} → statement M
 add-value-spec =
@@ -55,10 +58,9 @@ add-value-spec =
     returns-3
     (λ c. search needs)
     (λ c. search needs)
+    (λ c κs. search needs)
     returns-4
-    (λ c κs. search needs)
     returns-5
-    returns-6
     (λ c. search needs)
     (λ c κs. search needs)
     (λ c. search needs)
@@ -71,9 +73,10 @@ add-value-spec =
     (λ c. search needs)
     (λ c κs. search needs)
     (λ c. search needs)
+    with-counts-requires
     (λ c. search needs)
     (λ c. search needs)
     (λ c. search needs)
     (λ c. search needs)
     (λ c. search needs)
-    returns-7)
+    returns-6)
