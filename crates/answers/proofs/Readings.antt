@@ -12,8 +12,9 @@ use lib.ListN.{length, getD, length-append}
 use Rattle.meaning.specs.Ascii.{ascii}
 use Rattle.meaning.specs.Places.{Place, childrenOf, Document}
 use Rattle.meaning.specs.Text.{idText, over}
-use Rattle.meaning.specs.Read.{keysText, told, ReadOutcome, answerRead}
+use Rattle.meaning.specs.Read.{keysText, listed, ReadOutcome, answerRead}
 use Rattle.meaning.specs.Sheet.{Row, rows, rowsOf}
+use Rattle.meaning.specs.Answers.{readingAnswer}
 use Rattle.meaning.specs.declared.Saved.{Saved}
 use Rattle.meaning.specs.declared.Saved.the-variants.{Written, ShortBuffer}
 use Rattle.meaning.specs.declared.Reading.{Reading}
@@ -39,24 +40,24 @@ reading (Written n) = G.Written n
 reading (ShortBuffer n) = G.ShortBuffer n
 
 abbrev pub outcome : Saved → List ℕ → ReadOutcome
-outcome r after = record { answer = reading r; buffer = after }
+outcome r after = record { answer = readingAnswer (reading r); buffer = after }
 
 module _ (text before after : List ℕ) (r : Saved) (small : length text ≤ 18446744073709551615) (f : Fills text before r after) where
-  read-short : length before < length text → answerRead (told text) before ≡ outcome (ShortBuffer (length text)) before
+  read-short : length before < length text → answerRead (listed text) before ≡ outcome (ShortBuffer (length text)) before
   unfolding answerRead
   read-short l = rw (lt-ltb (length before) (length text) l)
 
-  read-whole : length text ≤ length before → answerRead (told text) before ≡ outcome (Written (length text)) (over text before)
+  read-whole : length text ≤ length before → answerRead (listed text) before ≡ outcome (Written (length text)) (over text before)
   unfolding answerRead
   read-whole l = rw (le-ltb (length before) (length text) l)
 
-  whole : length text ≤ length before → answerRead (told text) before ≡ outcome r after
+  whole : length text ≤ length before → answerRead (listed text) before ≡ outcome r after
   whole l = let x = f .whole l in read-whole l ∙ ap₂ outcome (sym (x .0)) (sym (x .1))
 
-  pub read-told : answerRead (told text) before ≡ outcome r after
-  read-told = by-size (tri (length before) (length text))
+  pub read-listed : answerRead (listed text) before ≡ outcome r after
+  read-listed = by-size (tri (length before) (length text))
     where
-      by-size : Tri (length before) (length text) → answerRead (told text) before ≡ outcome r after
+      by-size : Tri (length before) (length text) → answerRead (listed text) before ≡ outcome r after
       by-size (less l) =
           let x = f .short l in
           let n : length text ≡ needed text = omega arith in
@@ -124,19 +125,19 @@ element-short i h =
 module _ (h k m v : List ℕ) (c : Counts) (before after : List ℕ) (r : Saved) where
   pub keys-read : (A R : List Row) (depth : ℕ) (p : Place) → Holds (four h k m v) c (A ++ R) → passed (deeper depth) R ≡ rows (suc depth) p
       → Fills (keysUnder h k (length A) (c .rows) depth) before r after
-      → answerRead (told (keysText (childrenOf p))) before ≡ outcome r after
+      → answerRead (listed (keysText (childrenOf p))) before ≡ outcome r after
   keys-read A R depth p H e f =
-      ap (λ t. answerRead (told t) before) (sym (keys-of-place h k m v c A R depth p H e))
-      ∙ read-told (keysUnder h k (length A) (c .rows) depth) before after r (omega (arith, keys-short h k depth (length A) (c .rows))) f
+      ap (λ t. answerRead (listed t) before) (sym (keys-of-place h k m v c A R depth p H e))
+      ∙ read-listed (keysUnder h k (length A) (c .rows) depth) before after r (omega (arith, keys-short h k depth (length A) (c .rows))) f
 
   pub root-read : (D : Document) → Holds (four h k m v) c (rowsOf D) → Fills (keysUnder h k 0 (c .rows) 0) before r after
-      → answerRead (told (keysText (D .root))) before ≡ outcome r after
+      → answerRead (listed (keysText (D .root))) before ≡ outcome r after
   root-read D H f =
-      ap (λ t. answerRead (told t) before) (sym (keys-of-root h k m v c D H))
-      ∙ read-told (keysUnder h k 0 (c .rows) 0) before after r (omega (arith, keys-short h k 0 0 (c .rows))) f
+      ap (λ t. answerRead (listed t) before) (sym (keys-of-root h k m v c D H))
+      ∙ read-listed (keysUnder h k 0 (c .rows) 0) before after r (omega (arith, keys-short h k 0 0 (c .rows))) f
 
 -- An element.
 pub element-read : (i : ℕ) (before after : List ℕ) (r : Saved) → i ≤ 18446744073709551615 → Fills (idRow i) before r after
-    → answerRead (told (idText i ++ ascii "\n")) before ≡ outcome r after
+    → answerRead (listed (idText i ++ ascii "\n")) before ≡ outcome r after
 element-read i before after r h f =
-    ap (λ t. answerRead (told t) before) (sym (row-text i)) ∙ read-told (idRow i) before after r (omega (arith, element-short i h)) f
+    ap (λ t. answerRead (listed t) before) (sym (row-text i)) ∙ read-listed (idRow i) before after r (omega (arith, element-short i h)) f
