@@ -20,10 +20,6 @@ use Rattle.forecast.specs.Goes.{Goes, RowGone, UnderGone, BlockGone, Row
 use Rattle.forecast.proofs.Here.{here}
 use Rattle.forecast.proofs.Goes.{more-marks, more-values}
 
-pub deep-none : (heads : List ℕ) (row n : ℕ) → length heads ≤ row → RowDeep heads row n
-deep-none heads row n l keys marks values c A r R h e =
-    absurd (omega (arith, here _ c (behind A) A r R h refl .row, at-behind (behind A) A refl .row))
-
 pub deep-is : (heads : List ℕ) (row : ℕ) → RowDeep heads row (depthIn (getD heads row 0))
 deep-is heads row keys marks values c A r R h e =
     ap (λ n. depthIn (getD heads n 0)) (e ∙ sym (at-behind (behind A) A refl .row)) ∙ here _ c (behind A) A r R h refl .depth

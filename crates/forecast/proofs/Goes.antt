@@ -17,6 +17,7 @@ use Rattle.words.specs.Words.{run}
 use Rattle.words.specs.Rows.{keepRows, flat}
 use Rattle.words.proofs.Flat.{flat-keep, flat-length}
 use Rattle.tables.specs.Words.{valueWords, depthIn, marksAt, valuesAt}
+use Rattle.tables.specs.Heads.{headIn, depth-said, marks-said, values-said}
 use Rattle.tables.specs.Seek.{further}
 use Rattle.tables.specs.Standing.{behind}
 use Rattle.tables.specs.Holding.{Holds, four}
@@ -24,6 +25,7 @@ use Rattle.tables.specs.Parts.{at-behind}
 use Rattle.tables.specs.Values.{strides-value, each-flat}
 use Rattle.tables.specs.Stands.{row-past}
 use Rattle.tables.specs.declared.Counts.{Counts}
+use Rattle.tables.specs.declared.Head.{Head}
 use Rattle.tables.specs.declared.Position.{Position}
 use Rattle.forecast.specs.declared.Lost.{Lost}
 use Rattle.forecast.specs.Goes.{Goes, RowGone, UnderGone}
@@ -44,36 +46,36 @@ module _ (heads marks values : List ℕ) (s : Position) (d : List ℕ) where
     is = λ keys c A r R h e. absurd (never keys c r (here _ c s A r R h e));
   }
 
-  counted : (a b : ℕ)
-      → a + length (keep (uncovered d) (run (s .mark) (marksAt (getD heads (s .row) 0)) marks)) ≡ marksAt (getD heads (s .row) 0)
-      → b * 6 + length (keepRows 6 (uncovered d) (valuesAt (getD heads (s .row) 0)) (drop (s .value * 6) values))
-      ≡ valuesAt (getD heads (s .row) 0) * 6
+  counted : (head : Head) (a b : ℕ) → head ≡ headIn (getD heads (s .row) 0)
+      → a + length (keep (uncovered d) (run (s .mark) (head .marks) marks)) ≡ head .marks
+      → b * 6 + length (keepRows 6 (uncovered d) (head .values) (drop (s .value * 6) values))
+      ≡ head .values * 6
       → (keys : List ℕ) (c : Counts) (r : Row) → Here (four heads keys marks values) c s r
       → Goes d (r ∷ []) (record { marks = a; values = b })
   unfolding goneMarks goneValues clearMarks clearValues
-  counted a b p q keys c r h =
+  counted head a b e p q keys c r h =
       let vs = r .values in
       let p′ : a + length (keep (uncovered d) (r .marks)) ≡ length (r .marks) =
       subst (λ l. a + length (keep (uncovered d) l) ≡ length (r .marks)) (h .marks-run)
-      (subst (λ n. a + length (keep (uncovered d) (run (s .mark) n marks)) ≡ n) (h .marks) p) in
+      (subst (λ n. a + length (keep (uncovered d) (run (s .mark) n marks)) ≡ n) (marks-said e ∙ h .marks) p) in
       let k : keepRows 6 (uncovered d) (length vs) (drop (s .value * 6) values)
       ≡ flat valueWords (keep (λ v. uncovered d (v .id)) vs) =
       ap (keepRows 6 (uncovered d) (length vs)) (h .values-drop ∙ ap (_++ h .behind-values) (each-flat vs))
       ∙ flat-keep 6 valueWords idOfValue strides-value (uncovered d) vs (h .behind-values) in
       let q′ : b * 6 + length (keepRows 6 (uncovered d) (length vs) (drop (s .value * 6) values)) ≡ length vs * 6 =
-      subst (λ n. b * 6 + length (keepRows 6 (uncovered d) n (drop (s .value * 6) values)) ≡ n * 6) (h .values) q in
+      subst (λ n. b * 6 + length (keepRows 6 (uncovered d) n (drop (s .value * 6) values)) ≡ n * 6) (values-said e ∙ h .values) q in
       let l = ap length k ∙ flat-length 6 valueWords idOfValue strides-value (keep (λ v. uncovered d (v .id)) vs) in
       record { marks = omega arith; values = omega arith }
 
-  pub row-gone : (a b : ℕ)
-      → a + length (keep (uncovered d) (run (s .mark) (marksAt (getD heads (s .row) 0)) marks)) ≡ marksAt (getD heads (s .row) 0)
-      → b * 6 + length (keepRows 6 (uncovered d) (valuesAt (getD heads (s .row) 0)) (drop (s .value * 6) values))
-      ≡ valuesAt (getD heads (s .row) 0) * 6
+  pub row-gone : (head : Head) (a b : ℕ) → head ≡ headIn (getD heads (s .row) 0)
+      → a + length (keep (uncovered d) (run (s .mark) (head .marks) marks)) ≡ head .marks
+      → b * 6 + length (keepRows 6 (uncovered d) (head .values) (drop (s .value * 6) values))
+      ≡ head .values * 6
       → RowGone heads marks values s d (record { marks = a; values = b })
-  row-gone a b p q = record {
-    few-marks = omega arith;
-    few-values = omega arith;
-    is = λ keys c A r R h e. counted a b p q keys c r (here _ c s A r R h e);
+  row-gone head a b e p q = record {
+    few-marks = omega (arith, marks-said e);
+    few-values = omega (arith, values-said e);
+    is = λ keys c A r R h f. counted head a b e p q keys c r (here _ c s A r R h f);
   }
 
 -- Rows behind a place.
@@ -181,19 +183,19 @@ module _ (heads marks values : List ℕ) (rows : ℕ) (from : Position) (n : ℕ
         ended keys c front [] q h e = passed-nil n
         ended keys c front (r ∷ back) q h e = absurd (omega (arith, here _ c at front r back h e .row))
 
-    pub going-stop : depthIn (getD heads (at .row) 0) ≤ n → UnderGone heads marks values rows from n d sum
-    going-stop l = going-done (λ keys c front back q h e. ended keys c front back q h e)
+    pub going-stop : (head : Head) → head ≡ headIn (getD heads (at .row) 0) → head .depth ≤ n → UnderGone heads marks values rows from n d sum
+    going-stop head f l = going-done (λ keys c front back q h e. ended keys c front back q h e)
       where
         ended : (keys : List ℕ) (c : Counts) (front back : List Row) → rows ≡ c .rows
             → Holds (four heads keys marks values) c (front ++ back) → at ≡ behind front → passed (deeper n) back ≡ []
         ended keys c front [] q h e = passed-nil n
-        ended keys c front (r ∷ back) q h e = passed-no n r back (omega (arith, here _ c at front r back h e .depth))
+        ended keys c front (r ∷ back) q h e = passed-no n r back (omega (arith, depth-said f, here _ c at front r back h e .depth))
 
     -- one row more
-    pub going-on : at .row < rows → n < depthIn (getD heads (at .row) 0) → (g : Lost) → RowGone heads marks values at d g
+    counted-on : at .row < rows → n < depthIn (getD heads (at .row) 0) → (g : Lost) → RowGone heads marks values at d g
         → Going heads marks values rows from n d (further at (getD heads (at .row) 0))
         (record { marks = sum .marks + g .marks; values = sum .values + g .values })
-    going-on l p g W =
+    counted-on l p g W =
         let w = getD heads (at .row) 0 in
         let m : marksAt w < 2048 = omega arith in
         let v : valuesAt w < 512 = omega arith in
@@ -236,3 +238,9 @@ module _ (heads marks values : List ℕ) (rows : ℕ) (from : Position) (n : ℕ
         on keys c A B q h R =
             step keys c (A ++ B) B (R .front) (R .back) q (subst (Holds (four heads keys marks values) c) (R .all) h) (R .all) (R .here)
             (R .marks) (R .values)
+
+    pub going-on : (head : Head) → head ≡ headIn (getD heads (at .row) 0) → at .row < rows → n < head .depth → (g : Lost)
+        → RowGone heads marks values at d g → Going heads marks values rows from n d
+        (record { row = at .row + 1; mark = at .mark + head .marks; value = at .value + head .values })
+        (record { marks = sum .marks + g .marks; values = sum .values + g .values })
+    going-on head e l p g W = rw (marks-said e, values-said e) (counted-on l (omega (arith, depth-said e)) g W)

@@ -1,7 +1,12 @@
 // What goes: the marks and values that deps cover, of a row and of a block.
 use crate::Lost;
 use meaning::Counters;
+use tables::MARKS_ROOM;
 use tables::Position;
+use tables::ROWS_ROOM;
+use tables::VALUES_ROOM;
+use tables::head_at;
+use tables::head_in;
 use tables::next_row;
 use words::covered_marks;
 use words::covered_values;
@@ -18,18 +23,18 @@ pub fn gone_row(heads: &[u64], marks: &[u64], values: &[u64], s: Position, d: Co
             values: 0,
         };
     }
-    let h = heads[row];
-    let m = (h / 128 % 2048) as usize;
-    let v = (h / 262144 % 512) as usize;
+    let head = head_in(heads[row]);
+    let m = head.marks;
+    let v = head.values;
     let from = s.mark;
-    if from > 1032 {
+    if from > MARKS_ROOM {
         return Lost {
             marks: 0,
             values: 0,
         };
     }
     let at = s.value;
-    if at > 257 {
+    if at > VALUES_ROOM {
         return Lost {
             marks: 0,
             values: 0,
@@ -72,16 +77,16 @@ pub fn gone_under(
         marks: 0,
         values: 0,
     };
-    if rows > 264 {
+    if rows > ROWS_ROOM {
         return sum;
     }
     if at.row > rows {
         return sum;
     }
-    if at.mark > 1032 {
+    if at.mark > MARKS_ROOM {
         return sum;
     }
-    if at.value > 257 {
+    if at.value > VALUES_ROOM {
         return sum;
     }
     while at.row < rows {
@@ -89,8 +94,8 @@ pub fn gone_under(
         if row >= heads.len() {
             return sum;
         }
-        let h = heads[row];
-        if h % 16 <= n {
+        let head = head_in(heads[row]);
+        if head.depth <= n {
             return sum;
         }
         let g = gone_row(heads, marks, values, at, d);
@@ -100,8 +105,8 @@ pub fn gone_under(
         };
         at = Position {
             row: row + 1,
-            mark: at.mark + (h / 128 % 2048) as usize,
-            value: at.value + (h / 262144 % 512) as usize,
+            mark: at.mark + head.marks,
+            value: at.value + head.values,
         };
     }
     sum
@@ -111,10 +116,7 @@ pub fn gone_under(
 pub fn depth_at(heads: &[u64], row: usize) -> u64
     ensures { λ r. ⌜ RowDeep (now (heads .entry)) row r ⌝ }
 {
-    if row >= heads.len() {
-        return 0;
-    }
-    heads[row] % 16
+    head_at(heads, row).depth
 }
 
 // What goes of a block: of the row at s and the deeper rows behind it.

@@ -2,6 +2,7 @@
 use Prim.Native.Nat.{_-_}
 use native.Mathlib.Omega.{arith}
 use borrow.Author.Needs.{needs}
+use Rattle.tables.specs.Heads.{marks-said, values-said}
 use Rattle.forecast.proofs.Goes.{Going, under-none, going-start, going-end, going-out, going-stop, going-on}
 use Rattle.forecast.proofs.loss.gone_under.Statement.{statement}
 use Rattle.forecast.proofs.loss.gone_under.Tie as tie
@@ -26,16 +27,25 @@ returns-5 c =
 
 returns-6 : tie.Need-returns-6 Inv-loop μ-loop
 returns-6 c =
-    let at-loop = c .before .before .before .before .before in
-    going-stop _ _ _ _ _ _ _ _ _ (at-loop .loop .inv) (c .if7 .taken)
+    let at-head = c .before .before in
+    let at-loop = at-head .before .before .before .before .before in
+    going-stop _ _ _ _ _ _ _ _ _ (at-loop .loop .inv) _ (at-head .head-in .ensures) (c .if7 .taken)
+
+add-value : tie.Need-add-t19 Inv-loop μ-loop
+add-value c =
+    let at-head = c .before .before .before .before .before .before .before .before .before .before .before in
+    let inv = at-head .before .before .before .before .before .loop .inv in
+    omega (arith, values-said (at-head .head-in .ensures), inv .value, inv .low, inv .few)
 
 loop-again : tie.Need-loop-again Inv-loop μ-loop
 loop-again c =
-    let at-gone-row = c .before .before .before .before .before .before in
+    let at-gone-row = c .before .before .before .before .before .before .before .before in
     let at-if7 = at-gone-row .before in
-    let at-if5 = at-if7 .before .before .before in
+    let at-head = at-if7 .before .before in
+    let at-if5 = at-head .before .before .before in
     let at-loop = at-if5 .before .before in
-    going-on _ _ _ _ _ _ _ _ _ (at-loop .loop .inv) (at-if5 .if5 .taken) (at-if7 .if7 .left) _ (at-gone-row .gone-row .ensures)
+    going-on _ _ _ _ _ _ _ _ _ (at-loop .loop .inv) _ (at-head .head-in .ensures) (at-if5 .if5 .taken) (at-if7 .if7 .left) _
+    (at-gone-row .gone-row .ensures)
 
 pub gone-under-spec : {M : Type 1} → statement M
 gone-under-spec =
@@ -51,13 +61,14 @@ gone-under-spec =
     returns-5
     (λ c. search needs)
     (λ c. search needs)
+    (λ c κs. search needs)
     returns-6
     (λ c κs. search needs)
     (λ c. search needs)
     (λ c. search needs)
     (λ c. search needs)
-    (λ c. search needs)
-    (λ c. search needs)
+    (λ c. omega (arith, marks-said (c .before .before .before .before .before .before .before .before .before .head-in .ensures)))
+    add-value
     (λ c. search needs)
     loop-again
     (λ c. going-end _ _ _ _ _ _ _ _ _ (c .before .before .loop .inv) (c .if5 .left)))
