@@ -12,6 +12,7 @@ use readers::Key;
 use readers::LONGEST;
 use steps::WithGap;
 use tables::Counts;
+use tables::DEEPEST;
 use tables::MAP;
 use tables::Position;
 use tables::Search;
@@ -132,7 +133,7 @@ pub fn descend(
     if left < 3 {
         return WithGap { counts: c, gap };
     }
-    if n > 8 {
+    if n > DEEPEST {
         return WithGap { counts: c, gap };
     }
     let key = Key {

@@ -21,6 +21,7 @@ use sums::deed_number;
 use sums::element;
 use sums::mark;
 use sums::weightless;
+use tables::DEEPEST;
 use tables::Position;
 use tables::next_row;
 ghost use Prim.Native.Nat.{ℕ, _<_, _≤_};
@@ -225,7 +226,7 @@ fn weigh_way(
     if way.len() < 3 {
         return weightless(true);
     }
-    if n > 8 {
+    if n > DEEPEST {
         return weightless(true);
     }
     let key = Key {

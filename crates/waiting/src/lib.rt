@@ -20,6 +20,8 @@ ghost use Rattle.waiting.specs.Waits.{TellsEarly, Tells, TellsWaits, Put
 // of the same value stand in specs/Waits and specs/Rows.
 pub const WAITING: usize = 2560;
 
+pub const ROW: usize = 40;
+
 pub const MOST: usize = 64;
 
 // Whether the operation at i comes too early where these are the entries of seen: it isn't ready, and not dead by the entry of its own
@@ -27,25 +29,25 @@ pub const MOST: usize = 64;
 pub fn early(t: &[u64], n: usize, i: usize, seen: &[u32; 8]) -> bool
     ensures { λ r. ⌜ TellsEarly (now (t .entry)) n i (now (seen .entry)) r ⌝ }
 {
-    if t.len() < 2560 {
+    if t.len() < WAITING {
         return false;
     }
-    if n > 64 {
+    if n > MOST {
         return false;
     }
     if i >= n {
         return false;
     }
-    let own = (t[40 * i] % 8) as usize;
+    let own = (t[ROW * i] % 8) as usize;
     let last = wide(seen[own]);
-    let entry = t[40 * i + 1 + own];
+    let entry = t[ROW * i + 1 + own];
     if entry < last {
         return false;
     }
     if last < entry {
         return true;
     }
-    let deps = counters_at(t, 40 * i + 1);
+    let deps = counters_at(t, ROW * i + 1);
     let all = Counters { at: *seen };
     let ready = at_most(deps, all);
     !ready
@@ -55,47 +57,47 @@ pub fn early(t: &[u64], n: usize, i: usize, seen: &[u32; 8]) -> bool
 pub fn op_at(t: &[u64], n: usize, i: usize) -> Operation
     ensures { λ r. ⌜ Tells (now (t .entry)) n i r ⌝ }
 {
-    if t.len() < 2560 {
+    if t.len() < WAITING {
         return no_op();
     }
-    if n > 64 {
+    if n > MOST {
         return no_op();
     }
     if i >= n {
         return no_op();
     }
-    read_row(t, 40 * i)
+    read_row(t, ROW * i)
 }
 
 // Whether an operation with this id waits.
 pub fn waits(t: &[u64], n: usize, id: u64) -> bool
     ensures { λ r. ⌜ TellsWaits (now (t .entry)) n id r ⌝ }
 {
-    if t.len() < 2560 {
+    if t.len() < WAITING {
         return false;
     }
-    if n > 64 {
+    if n > MOST {
         return false;
     }
-    let k = rank_rows(t, 0, n, 40, id);
+    let k = rank_rows(t, 0, n, ROW, id);
     if k >= n {
         return false;
     }
-    id == t[40 * k]
+    id == t[ROW * k]
 }
 
 // Puts an operation among those that wait, none of which has its id, and answers how many they are.
 pub fn put(t: &mut [u64], n: usize, op: Operation) -> usize
     ensures { λ r. ⌜ Puts op (now (t .entry)) n (now (t .exit)) r ⌝ }
 {
-    if t.len() < 2560 {
+    if t.len() < WAITING {
         return n;
     }
-    if n >= 64 {
+    if n >= MOST {
         return n;
     }
-    let at = 40 * rank_rows(t, 0, n, 40, op.id);
-    open(t, 40 * n, at, 40);
+    let at = ROW * rank_rows(t, 0, n, ROW, op.id);
+    open(t, ROW * n, at, ROW);
     write_row(t, at, op);
     n + 1
 }
@@ -104,15 +106,15 @@ pub fn put(t: &mut [u64], n: usize, op: Operation) -> usize
 pub fn take_out(t: &mut [u64], n: usize, i: usize) -> usize
     ensures { λ r. ⌜ TakesOut (now (t .entry)) n i (now (t .exit)) r ⌝ }
 {
-    if t.len() < 2560 {
+    if t.len() < WAITING {
         return n;
     }
-    if n > 64 {
+    if n > MOST {
         return n;
     }
     if i >= n {
         return n;
     }
-    close(t, 40 * n, 40 * i + 40, 40 * i);
+    close(t, ROW * n, ROW * i + ROW, ROW * i);
     n - 1
 }
