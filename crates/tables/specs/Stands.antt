@@ -1,4 +1,4 @@
--- What `find`, `known` and `past` promise of tables that hold rows: a search from a row on stops behind the rows that it passes over, the
+-- What `find`, `is_at` and `next_row` promise of tables that hold rows: a search from a row on stops behind the rows that it passes over, the
 -- row that stands there is told by its words, and the place behind it by its head.
 -- Assumes nothing.
 use Prim.Native.Nat.{ℕ, _+_, _*_, _≤_, _<_}

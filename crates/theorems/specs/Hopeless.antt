@@ -26,18 +26,18 @@ use Rattle.theorems.specs.Following.{Alive}
 use Rattle.theorems.specs.Receivers.{Event, Formed, appliedIn, live-follows}
 use Rattle.theorems.specs.ElementsFound.{astray-still}
 
--- seen only grows, so a repeat and a crossed one stay so
+-- seen only grows, so a repeat and one whose own deps are behind stay so
 repeated-still : (s t : List ℕ) (o : Operation) → entry s (who o) ≤ entry t (who o) → repeated s o ≡ true → repeated t o ≡ true
 unfolding repeated
 repeated-still s t o g e =
     le-leb (counterOf (o .id)) (entry t (who o)) (omega (arith, leb-true (counterOf (o .id)) (entry s (who o)) e))
 
-crossed-still : (s t : List ℕ) (o : Operation) → entry s (who o) ≤ entry t (who o) → ownDepsBehind s o ≡ true → ownDepsBehind t o ≡ true
+behind-still : (s t : List ℕ) (o : Operation) → entry s (who o) ≤ entry t (who o) → ownDepsBehind s o ≡ true → ownDepsBehind t o ≡ true
 unfolding ownDepsBehind
-crossed-still s t o g e =
+behind-still s t o g e =
     lt-ltb (entry (o .deps) (who o)) (entry t (who o)) (omega (arith, ltb-true (entry (o .deps) (who o)) (entry s (who o)) e))
 
--- what is ready stays ready, or is crossed
+-- what is ready stays ready, or its own deps are behind
 ready-still : (D E : Document) (o : Operation) → ((k : ℕ) → entry (D .seen) k ≤ entry (E .seen) k) → readyIn D o ≡ true
     → (ownDepsBehind (E .seen) o ≡ true) ⊎ (readyIn E o ≡ true)
 unfolding ownDepsBehind
@@ -76,7 +76,7 @@ dead-step D o p e q h = why-dead (apply p D) o (go (dead-why D o h))
 
     go : Why D o → Why (apply p D) o
     go (repeats a) = repeats (repeated-still (D .seen) (apply p D .seen) o (grown (who o)) a)
-    go (crosses a) = crosses (crossed-still (D .seen) (apply p D .seen) o (grown (who o)) a)
+    go (crosses a) = crosses (behind-still (D .seen) (apply p D .seen) o (grown (who o)) a)
     go (barred r b) = barred-still b r (ready-still D (apply p D) o grown r)
 
 -- once dead, dead for good
