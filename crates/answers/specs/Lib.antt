@@ -1,2 +1,3 @@
+-- What contracts and proofs cite of `answers`, a file a subject.
 pub mod Fills
 pub mod Keys

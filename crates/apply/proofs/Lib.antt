@@ -1,2 +1,3 @@
+-- The laws that proofs of `apply` cite, a file a subject.
 pub mod Carrying
 pub mod Determined

@@ -1,1 +1,2 @@
+-- What contracts and proofs cite of `apply`, a file a subject.
 pub mod Applying

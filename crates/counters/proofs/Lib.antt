@@ -1,1 +1,2 @@
+-- The laws that proofs of `counters` cite, a file a subject.
 pub mod Entries

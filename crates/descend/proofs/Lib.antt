@@ -1,3 +1,4 @@
+-- The laws that proofs of `descend` cite, a file a subject.
 pub mod Leading
 pub mod Entering
 pub mod Descending

@@ -1,1 +1,2 @@
+-- The laws that proofs of `finder` cite, a file a subject.
 pub mod Looks

@@ -1,1 +1,2 @@
+-- What contracts and proofs cite of `finder`, a file a subject.
 pub mod Looks

@@ -1,3 +1,4 @@
+-- The laws that proofs of `forecast` cite, a file a subject.
 pub mod Here
 pub mod Goes
 pub mod Blocks

@@ -1,2 +1,3 @@
+-- What contracts and proofs cite of `forecast`, a file a subject.
 pub mod Goes
 pub mod Weighs

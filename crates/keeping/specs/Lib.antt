@@ -1,3 +1,4 @@
+-- What contracts and proofs cite of `keeping`, a file a subject.
 pub mod Storing
 pub mod Keeping
 pub mod Steady

@@ -1,3 +1,4 @@
+-- What contracts and proofs cite of `meaning`, a file a subject.
 pub mod Ascii
 pub mod Ids
 pub mod Sets

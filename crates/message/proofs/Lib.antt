@@ -1,3 +1,4 @@
+-- The laws that proofs of `message` cite, a file a subject.
 pub mod Steps
 pub mod Trails
 pub mod Deeds

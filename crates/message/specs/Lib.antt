@@ -1,3 +1,4 @@
+-- What contracts and proofs cite of `message`, a file a subject.
 pub mod Means
 pub mod Steps
 pub mod Reads

@@ -1,3 +1,4 @@
+-- The laws that proofs of `readers` cite, a file a subject.
 pub mod Texts
 pub mod Ids
 pub mod Commas

@@ -1,3 +1,4 @@
+-- What contracts and proofs cite of `readers`, a file a subject.
 pub mod Words
 pub mod Order
 pub mod Reads

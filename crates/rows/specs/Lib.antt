@@ -1,3 +1,4 @@
+-- What contracts and proofs cite of `rows`, a file a subject.
 pub mod Blocks
 pub mod Spans
 pub mod Seeking

@@ -1,1 +1,2 @@
+-- The laws that proofs of `script` cite, a file a subject.
 pub mod Finding

@@ -1,2 +1,3 @@
+-- What contracts and proofs cite of `sheet`, a file a subject.
 pub mod Texts
 pub mod Saving

@@ -1,3 +1,4 @@
+-- The laws that proofs of `stream` cite, a file a subject.
 pub mod Messages
 pub mod Compare
 pub mod Ending

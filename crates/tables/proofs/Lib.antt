@@ -1,1 +1,2 @@
+-- The laws that proofs of `tables` cite, a file a subject.
 pub mod Seeks

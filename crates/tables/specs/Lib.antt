@@ -1,3 +1,4 @@
+-- What contracts and proofs cite of `tables`, a file a subject.
 pub mod Words
 pub mod Heads
 pub mod Seek

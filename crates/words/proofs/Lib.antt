@@ -1,3 +1,4 @@
+-- The laws that proofs of `words` cite, a file a subject.
 pub mod Over
 pub mod Moves
 pub mod Rows

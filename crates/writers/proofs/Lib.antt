@@ -1,3 +1,4 @@
+-- The laws that proofs of `writers` cite, a file a subject.
 pub mod Over
 pub mod Hex
 pub mod Texts

@@ -1,3 +1,4 @@
+-- What contracts and proofs cite of `writers`, a file a subject.
 pub mod Wrote
 pub mod Sized
 pub mod Words
