@@ -33,18 +33,6 @@ module _ {whole before after : List ℕ} {at : ℕ} (u rest : List ℕ) (g : Wri
       → Writing whole before rest (putMid at (length after - at) after part) (at + m)
   lent w = next (came-back u after at (room u rest g) w) rest g
 
--- The same, if nothing comes behind it.
-module _ {whole before after u : List ℕ} {at : ℕ} (g : Writing whole before u after at) where
-  pub end-room : length u ≤ length (restOf after at)
-  end-room = rest-room u after at (last-room g)
-
-  pub end-fits : {b d : List ℕ} {m : ℕ} → Wrote u b d m → at + m ≤ length after
-  end-fits w = omega (arith, w .size, last-room g)
-
-  pub lent-end : {part : List ℕ} {m : ℕ} → Wrote u (restOf after at) part m
-      → Writing whole before [] (putMid at (length after - at) after part) (at + m)
-  lent-end w = lent u [] (to-come (sym (append-none u)) g) w
-
 -- Of the size of a whole text `sum` is counted, and that of `rest` is still to come: `left` texts of at most `limit` bytes.
 pub record Summing (whole rest : List ℕ) (limit left bound sum : ℕ) : Type 0 where
   pub size : length whole ≡ sum + length rest

@@ -25,6 +25,7 @@ use Rattle.lines.specs.Rows.{valueOf}
 use Rattle.lines.specs.Spots.{spotOf}
 use Rattle.lines.proofs.Words.{key-back, string-back}
 use Rattle.tables.specs.Words.{bit, side, headWord, mapIn, listIn, spotWords, valueWords, eachValue, marksOf, valuesOf}
+use Rattle.tables.specs.Heads.{headIn}
 use Rattle.tables.specs.Seek.{three, further}
 use Rattle.tables.specs.Finds.{GoodSpot, Narrow, AllNarrow, bit-small, side-small, depth-in, side-in, marks-in, values-in, after}
 use Rattle.tables.specs.Standing.{first, behind}
@@ -174,7 +175,7 @@ module _ (h k m v : List ℕ) (c : Counts) where
     head-is : headAt (four h k m v) s ≡ headWord r
     head-is = ap (λ i. getD h i 0) (at .row) ∙ head-at h k m v c A R r (st .holds)
 
-    place-is : placeText (headWord r) k (s .row) ≡ lineText (placeLine (r .depth) (r .spot) (r .map) (r .list))
+    place-is : placeText (headIn (headWord r)) k (s .row) ≡ lineText (placeLine (r .depth) (r .spot) (r .map) (r .list))
     unfolding placeText
     place-is =
         rw (
@@ -210,7 +211,7 @@ module _ (h k m v : List ℕ) (c : Counts) where
     row-is : rowText (four h k m v) s ≡ linesText (rowLines r)
     unfolding rowLines linesText
     row-is =
-        row-text (four h k m v) s
+        row-text (four h k m v) s refl
         ∙ (rw (head-is, place-is, marks-in r narrow, values-in r narrow, marks-are, values-are)
         (ap (lineText (placeLine (r .depth) (r .spot) (r .map) (r .list)) ++_)
         (sym (lines-append (map markLine (r .marks)) (map valueLine (r .values))))))

@@ -15,9 +15,11 @@ use Rattle.lines.specs.Rows.{valueOf}
 use Rattle.lines.specs.Spots.{spotOf}
 use Rattle.lines.specs.declared.Spot.{Spot}
 use Rattle.lines.specs.declared.Spot.the-variants.{Key, Element}
-use Rattle.tables.specs.Words.{depthIn, sideIn, mapIn, listIn, marksAt, valuesAt, Tables}
+use Rattle.tables.specs.Words.{marksAt, valuesAt, Tables}
+use Rattle.tables.specs.Heads.{headIn}
 use Rattle.tables.specs.Seek.{Three, threeAt, further}
 use Rattle.tables.specs.Standing.{first}
+use Rattle.tables.specs.declared.Head.{Head}
 use Rattle.tables.specs.declared.Position.{Position}
 
 -- the kind of a value by its word, and by the number that it is
@@ -34,9 +36,8 @@ unfoldable pub spotIn : ℕ → Three → Spot
 spotIn s k = cond (eqb s 1) (Element (k .hi)) (cond (ltb 16 (k .len)) (Key (k .hi) (k .lo) 0) (Key (k .hi) (k .lo) (k .len)))
 
 -- the place line of row n, whose head is h
-unfoldable pub placeText : ℕ → List ℕ → ℕ → List ℕ
-placeText h keys n =
-    lineText (placeLine (depthIn h) (spotOf (spotIn (sideIn h) (threeAt keys n))) (eqb (mapIn h) 1) (eqb (listIn h) 1))
+unfoldable pub placeText : Head → List ℕ → ℕ → List ℕ
+placeText h keys n = lineText (placeLine (h .depth) (spotOf (spotIn (h .side) (threeAt keys n))) (h .map) (h .list))
 
 -- value i, and its line
 abbrev pub fourAt : List ℕ → ℕ → List ℕ
@@ -64,13 +65,13 @@ marksText marks = texts (markText marks) (λ i. i + 1)
 abbrev pub valuesText : List ℕ → ℕ → ℕ → List ℕ
 valuesText values = texts (valueText values) (λ i. i + 1)
 
--- the head of the row at s, the lines of that row, and of n rows from there on
+-- the head's word of the row at s, the lines of that row, and of n rows from there on
 abbrev pub headAt : Tables → Position → ℕ
 headAt T s = getD (T .heads) (s .row) 0
 
 unfoldable pub rowText : Tables → Position → List ℕ
 rowText T s =
-    placeText (headAt T s) (T .keys) (s .row)
+    placeText (headIn (headAt T s)) (T .keys) (s .row)
     ++ (marksText (T .marks) (s .mark) (marksAt (headAt T s)) ++ valuesText (T .values) (s .value) (valuesAt (headAt T s)))
 
 abbrev pub rowsText : Tables → Position → ℕ → List ℕ

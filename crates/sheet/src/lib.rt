@@ -8,8 +8,8 @@ use lines::end_line_size;
 use lines::put_end_line;
 use lines::put_seen_line;
 use lines::seen_line_size;
-use listed::put_rows;
 use listed::rows_size;
+use listed::then_rows;
 use meaning::Counters;
 use meaning::Saved;
 use tables::Counts;
@@ -20,11 +20,13 @@ use tables::VALUES;
 use tables::within;
 use writers::put_text;
 ghost use mathlib.Core.Path.{_≡_};
-ghost use Prim.Native.Nat.{_≤_};
+ghost use Prim.Native.Nat.{_+_, _≤_};
 ghost use lib.ListN.{length};
+ghost use Rattle.meaning.specs.Sheet.{lineText, seenLine, endLine};
 ghost use Rattle.decimal.specs.Powers.{powersOfTen};
 ghost use Rattle.decimal.specs.Take.{Wrote};
-ghost use Rattle.tables.specs.Holding.{four};
+ghost use Rattle.writers.specs.Wrote.{WroteAt};
+ghost use Rattle.tables.specs.Holding.{four, headsRoom};
 ghost use Rattle.sheet.specs.Texts.{sheetText};
 ghost use Rattle.sheet.specs.Saving.{Saving};
 
@@ -39,7 +41,7 @@ fn sheet_size(
     seen: Counters,
     powers: &[u64; 20],
 ) -> usize
-    requires { ⌜ (now powers ≡ powersOfTen) × (rows ≤ 264) ⌝ }
+    requires { ⌜ (now powers ≡ powersOfTen) × (rows ≤ headsRoom) ⌝ }
     ensures { λ r. ⌜ r ≡ length
         (sheetText (four (now (heads .entry)) (now (keys .entry)) (now (marks .entry)) (now (values .entry))) rows (seen .at)) ⌝ }
 {
@@ -47,6 +49,20 @@ fn sheet_size(
     let b = rows_size(heads, keys, marks, values, rows, powers);
     let c = end_line_size(rows as u64, powers);
     8 + a + b + c
+}
+
+fn then_seen_line(buf: &mut [u8], at: usize, seen: Counters, powers: &[u64; 20]) -> usize
+    requires { ⌜ (now powers ≡ powersOfTen) × (at + length (lineText (seenLine (seen .at))) ≤ length (now buf)) ⌝ }
+    ensures { λ r. ⌜ WroteAt (lineText (seenLine (seen .at))) at (now (buf .entry)) (now (buf .exit)) r ⌝ }
+{
+    at + put_seen_line(&mut buf[at..], seen, powers)
+}
+
+fn then_end_line(buf: &mut [u8], at: usize, places: u64, powers: &[u64; 20]) -> usize
+    requires { ⌜ (now powers ≡ powersOfTen) × (at + length (lineText (endLine places)) ≤ length (now buf)) ⌝ }
+    ensures { λ r. ⌜ WroteAt (lineText (endLine places)) at (now (buf .entry)) (now (buf .exit)) r ⌝ }
+{
+    at + put_end_line(&mut buf[at..], places, powers)
 }
 
 fn put_sheet(
@@ -59,16 +75,16 @@ fn put_sheet(
     seen: Counters,
     powers: &[u64; 20],
 ) -> usize
-    requires { ⌜ (now powers ≡ powersOfTen) × (rows ≤ 264)
+    requires { ⌜ (now powers ≡ powersOfTen) × (rows ≤ headsRoom)
         × (length (sheetText (four (now heads) (now keys) (now marks) (now values)) rows (seen .at)) ≤ length (now buf)) ⌝ }
     ensures { λ r. ⌜ Wrote
         (sheetText (four (now (heads .entry)) (now (keys .entry)) (now (marks .entry)) (now (values .entry))) rows (seen .at))
         (now (buf .entry)) (now (buf .exit)) r ⌝ }
 {
     let a = put_text(buf, b"sheet=1\n");
-    let b = a + put_seen_line(&mut buf[a..], seen, powers);
-    let c = b + put_rows(&mut buf[b..], heads, keys, marks, values, rows, powers);
-    c + put_end_line(&mut buf[c..], rows as u64, powers)
+    let b = then_seen_line(buf, a, seen, powers);
+    let c = then_rows(buf, b, heads, keys, marks, values, rows, powers);
+    then_end_line(buf, c, rows as u64, powers)
 }
 
 // Saves the tables' document: answers how many bytes were written, or, with the buffer as it was, how many are needed. Of counts that have

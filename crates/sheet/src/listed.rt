@@ -1,4 +1,5 @@
-// The lines of marks, values and rows, one after another.
+// The lines of marks, values and rows, one after another. The writers `then_..` go on at the place `at`: the rest of the buffer is lent, and
+// the answer is the place behind what was written.
 use crate::parts::place_size;
 use crate::parts::put_place;
 use crate::parts::put_value;
@@ -6,6 +7,7 @@ use crate::parts::value_size;
 use lines::mark_line_size;
 use lines::put_mark_line;
 use tables::Position;
+use tables::head_at;
 use tables::next_row;
 use tables::word;
 ghost use mathlib.Core.Path.{_≡_};
@@ -13,9 +15,10 @@ ghost use Prim.Native.Nat.{_+_, _*_, _≤_, _<_};
 ghost use lib.ListN.{length};
 ghost use Rattle.decimal.specs.Powers.{powersOfTen};
 ghost use Rattle.decimal.specs.Take.{Wrote};
+ghost use Rattle.writers.specs.Wrote.{WroteAt};
 ghost use Rattle.writers.specs.Sized.{Sized};
 ghost use Rattle.tables.specs.Standing.{first};
-ghost use Rattle.tables.specs.Holding.{four};
+ghost use Rattle.tables.specs.Holding.{four, headsRoom};
 ghost use Rattle.sheet.specs.Texts.{marksText, valuesText, rowText, rowsText, Near};
 
 // The lines of n marks, from one on.
@@ -50,6 +53,20 @@ fn put_marks(buf: &mut [u8], marks: &[u64], from: usize, n: usize, powers: &[u64
     at
 }
 
+fn then_marks(
+    buf: &mut [u8],
+    at: usize,
+    marks: &[u64],
+    from: usize,
+    n: usize,
+    powers: &[u64; 20],
+) -> usize
+    requires { ⌜ (now powers ≡ powersOfTen) × (from + n < 1000000) × (at + length (marksText (now marks) from n) ≤ length (now buf)) ⌝ }
+    ensures { λ r. ⌜ WroteAt (marksText (now (marks .entry)) from n) at (now (buf .entry)) (now (buf .exit)) r ⌝ }
+{
+    at + put_marks(&mut buf[at..], marks, from, n, powers)
+}
+
 // The lines of n values, from one on.
 
 fn values_size(values: &[u64], from: usize, n: usize, powers: &[u64; 20]) -> usize
@@ -82,6 +99,20 @@ fn put_values(buf: &mut [u8], values: &[u64], from: usize, n: usize, powers: &[u
     at
 }
 
+fn then_values(
+    buf: &mut [u8],
+    at: usize,
+    values: &[u64],
+    from: usize,
+    n: usize,
+    powers: &[u64; 20],
+) -> usize
+    requires { ⌜ (now powers ≡ powersOfTen) × (from + n < 1000000) × (at + length (valuesText (now values) from n) ≤ length (now buf)) ⌝ }
+    ensures { λ r. ⌜ WroteAt (valuesText (now (values .entry)) from n) at (now (buf .entry)) (now (buf .exit)) r ⌝ }
+{
+    at + put_values(&mut buf[at..], values, from, n, powers)
+}
+
 // The lines of a row: its place, its marks, its values.
 
 fn row_size(
@@ -96,10 +127,10 @@ fn row_size(
     ensures { λ r. ⌜ Sized (rowText (four (now (heads .entry)) (now (keys .entry)) (now (marks .entry)) (now (values .entry))) s)
         154533 r ⌝ }
 {
-    let h = word(heads, s.row);
+    let h = head_at(heads, s.row);
     let a = place_size(h, keys, s.row, powers);
-    let b = marks_size(marks, s.mark, (h / 128 % 2048) as usize, powers);
-    let c = values_size(values, s.value, (h / 262144 % 512) as usize, powers);
+    let b = marks_size(marks, s.mark, h.marks, powers);
+    let c = values_size(values, s.value, h.values, powers);
     a + b + c
 }
 
@@ -117,24 +148,10 @@ fn put_row(
     ensures { λ r. ⌜ Wrote (rowText (four (now (heads .entry)) (now (keys .entry)) (now (marks .entry)) (now (values .entry))) s)
         (now (buf .entry)) (now (buf .exit)) r ⌝ }
 {
-    let h = word(heads, s.row);
+    let h = head_at(heads, s.row);
     let a = put_place(buf, h, keys, s.row, powers);
-    let b = a
-        + put_marks(
-            &mut buf[a..],
-            marks,
-            s.mark,
-            (h / 128 % 2048) as usize,
-            powers,
-        );
-    b
-        + put_values(
-            &mut buf[b..],
-            values,
-            s.value,
-            (h / 262144 % 512) as usize,
-            powers,
-        )
+    let b = then_marks(buf, a, marks, s.mark, h.marks, powers);
+    then_values(buf, b, values, s.value, h.values, powers)
 }
 
 // The lines of all rows.
@@ -147,7 +164,7 @@ pub fn rows_size(
     rows: usize,
     powers: &[u64; 20],
 ) -> usize
-    requires { ⌜ (now powers ≡ powersOfTen) × (rows ≤ 264) ⌝ }
+    requires { ⌜ (now powers ≡ powersOfTen) × (rows ≤ headsRoom) ⌝ }
     ensures { λ r. ⌜ Sized (rowsText (four (now (heads .entry)) (now (keys .entry)) (now (marks .entry)) (now (values .entry))) first rows)
         (154533 * rows) r ⌝ }
 {
@@ -166,7 +183,7 @@ pub fn rows_size(
     sum
 }
 
-pub fn put_rows(
+fn put_rows(
     buf: &mut [u8],
     heads: &[u64],
     keys: &[u64],
@@ -175,7 +192,7 @@ pub fn put_rows(
     rows: usize,
     powers: &[u64; 20],
 ) -> usize
-    requires { ⌜ (now powers ≡ powersOfTen) × (rows ≤ 264)
+    requires { ⌜ (now powers ≡ powersOfTen) × (rows ≤ headsRoom)
         × (length (rowsText (four (now heads) (now keys) (now marks) (now values)) first rows) ≤ length (now buf)) ⌝ }
     ensures { λ r. ⌜ Wrote (rowsText (four (now (heads .entry)) (now (keys .entry)) (now (marks .entry)) (now (values .entry))) first rows)
         (now (buf .entry)) (now (buf .exit)) r ⌝ }
@@ -193,4 +210,22 @@ pub fn put_rows(
         left -= 1;
     }
     at
+}
+
+pub fn then_rows(
+    buf: &mut [u8],
+    at: usize,
+    heads: &[u64],
+    keys: &[u64],
+    marks: &[u64],
+    values: &[u64],
+    rows: usize,
+    powers: &[u64; 20],
+) -> usize
+    requires { ⌜ (now powers ≡ powersOfTen) × (rows ≤ headsRoom)
+        × (at + length (rowsText (four (now heads) (now keys) (now marks) (now values)) first rows) ≤ length (now buf)) ⌝ }
+    ensures { λ r. ⌜ WroteAt (rowsText (four (now (heads .entry)) (now (keys .entry)) (now (marks .entry)) (now (values .entry))) first rows)
+        at (now (buf .entry)) (now (buf .exit)) r ⌝ }
+{
+    at + put_rows(&mut buf[at..], heads, keys, marks, values, rows, powers)
 }

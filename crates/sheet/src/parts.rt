@@ -4,6 +4,9 @@ use lines::place_line_size;
 use lines::put_place_line;
 use lines::put_value_line;
 use lines::value_line_size;
+use tables::Head;
+use tables::LIST;
+use tables::key_at;
 use tables::word;
 use writers::Kind;
 ghost use mathlib.Core.Path.{_≡_};
@@ -14,6 +17,7 @@ ghost use Rattle.decimal.specs.Take.{Wrote};
 ghost use Rattle.writers.specs.Held.{InBounds};
 ghost use Rattle.writers.specs.Sized.{Sized};
 ghost use Rattle.lines.specs.Spots.{ShortKey};
+ghost use Rattle.tables.specs.Holding.{headsRoom};
 ghost use Rattle.sheet.specs.Texts.{kindIn, spotIn, placeText, valueText};
 
 // The kind of a value by its word, and by the number that it is.
@@ -51,7 +55,7 @@ fn kind_of(kind: u64, n: u64) -> Kind
 fn spot_of(side: u64, hi: u64, lo: u64, len: u64) -> Spot
     ensures { λ r. ⌜ (r ≡ spotIn side (record { hi = hi; lo = lo; len = len })) × ShortKey r ⌝ }
 {
-    if side == 1 {
+    if side == LIST {
         return Spot::Element { id: hi };
     }
     if 16 < len {
@@ -62,30 +66,22 @@ fn spot_of(side: u64, hi: u64, lo: u64, len: u64) -> Spot
 
 // The place line of a row, of its head and its key.
 
-pub fn place_size(h: u64, keys: &[u64], row: usize, powers: &[u64; 20]) -> usize
-    requires { ⌜ (now powers ≡ powersOfTen) × (row < 264) ⌝ }
+pub fn place_size(h: Head, keys: &[u64], row: usize, powers: &[u64; 20]) -> usize
+    requires { ⌜ (now powers ≡ powersOfTen) × (row < headsRoom) ⌝ }
     ensures { λ r. ⌜ Sized (placeText h (now (keys .entry)) row) 70 r ⌝ }
 {
-    let spot = spot_of(
-        h / 16 % 2,
-        word(keys, 3 * row),
-        word(keys, 3 * row + 1),
-        word(keys, 3 * row + 2),
-    );
-    place_line_size(h % 16, spot, h / 32 % 2 == 1, h / 64 % 2 == 1, powers)
+    let key = key_at(keys, row);
+    let spot = spot_of(h.side, key.hi, key.lo, key.len);
+    place_line_size(h.depth, spot, h.map, h.list, powers)
 }
 
-pub fn put_place(buf: &mut [u8], h: u64, keys: &[u64], row: usize, powers: &[u64; 20]) -> usize
-    requires { ⌜ (now powers ≡ powersOfTen) × (row < 264) × (length (placeText h (now keys) row) ≤ length (now buf)) ⌝ }
+pub fn put_place(buf: &mut [u8], h: Head, keys: &[u64], row: usize, powers: &[u64; 20]) -> usize
+    requires { ⌜ (now powers ≡ powersOfTen) × (row < headsRoom) × (length (placeText h (now keys) row) ≤ length (now buf)) ⌝ }
     ensures { λ r. ⌜ Wrote (placeText h (now (keys .entry)) row) (now (buf .entry)) (now (buf .exit)) r ⌝ }
 {
-    let spot = spot_of(
-        h / 16 % 2,
-        word(keys, 3 * row),
-        word(keys, 3 * row + 1),
-        word(keys, 3 * row + 2),
-    );
-    put_place_line(buf, h % 16, spot, h / 32 % 2 == 1, h / 64 % 2 == 1, powers)
+    let key = key_at(keys, row);
+    let spot = spot_of(h.side, key.hi, key.lo, key.len);
+    put_place_line(buf, h.depth, spot, h.map, h.list, powers)
 }
 
 // The line of a value, of its six words.

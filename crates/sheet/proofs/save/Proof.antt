@@ -8,9 +8,6 @@ use borrow.Author.Needs.{needs}
 use Rattle.sheet.proofs.save.Statement.{statement}
 use Rattle.sheet.proofs.save.Tie as tie
 
-returns : tie.Need-returns
-returns c = too-many _ _ _ _ (sym (c .before .within .ensures) ∙ not-true _ (c .if1 .taken))
-
 sheet-size-requires : tie.Need-sheet-size-requires
 sheet-size-requires c κs =
     let at-powers = c .before .before .before .before .before in
@@ -49,7 +46,7 @@ save-spec =
     tie.close
     (tie.spec
     (λ c κs. search needs)
-    returns
+    (λ c. too-many _ _ _ _ (sym (c .before .within .ensures) ∙ not-true _ (c .if1 .taken)))
     (λ c κs. search needs)
     sheet-size-requires
     returns-2
