@@ -26,7 +26,8 @@ use Rattle.writers.proofs.Hex.{size-hex}
 use Rattle.lines.specs.Rows.{keyRow, idRow}
 use Rattle.lines.proofs.Texts.{key-text, row-text}
 use Rattle.tables.specs.Holding.{Holds, four}
-use Rattle.tables.specs.Seek.{Three, threeAt}
+use Rattle.tables.specs.Heads.{keyAt}
+use Rattle.readers.specs.declared.Key.{Key}
 use Rattle.tables.specs.declared.Counts.{Counts}
 use Rattle.sheet.specs.Texts.{texts}
 use Rattle.answers.specs.Fills.{needed, Fills}
@@ -76,7 +77,7 @@ short-most len = by-size (tri 16 len)
     by-size (same e) = rw (le-ltb 16 len (omega arith)) (omega arith)
     by-size (more l) = rw (le-ltb 16 len (omega arith)) (omega arith)
 
-row-most : (k : Three) → length (keyRow (keyOf k)) ≤ 33
+row-most : (k : Key) → length (keyRow (keyOf k)) ≤ 33
 row-most k =
     rw (key-text (keyOf k))
     (simp length-append (omega (arith, size-hex (k .hi ∷ k .lo ∷ []) (shortOf (k .len)), short-most (k .len))))
@@ -86,8 +87,8 @@ module _ (heads keys : List ℕ) (depth : ℕ) where
   unfolding keyText
   key-most n = by-test (isTold (getD heads n 0) depth)
     where
-      by-test : (b : Bool) → length (cond b (keyRow (keyOf (threeAt keys n))) []) ≤ 33
-      by-test true = row-most (threeAt keys n)
+      by-test : (b : Bool) → length (cond b (keyRow (keyOf (keyAt keys n))) []) ≤ 33
+      by-test true = row-most (keyAt keys n)
       by-test false = omega arith
 
   keys-most : (i n : ℕ) → length (keysFrom heads keys depth i n) ≤ 33 * n

@@ -10,14 +10,15 @@ use lib.ListN.{getD}
 use Rattle.writers.specs.Words.{bytesOf}
 use Rattle.lines.specs.Rows.{keyRow}
 use Rattle.tables.specs.Words.{depthIn, sideIn, marksAt}
-use Rattle.tables.specs.Seek.{Three, threeAt}
+use Rattle.tables.specs.Heads.{keyAt}
+use Rattle.readers.specs.declared.Key.{Key}
 use Rattle.sheet.specs.Texts.{texts}
 
 -- the length of a key
 unfoldable pub shortOf : ℕ → ℕ
 shortOf len = cond (ltb 16 len) 0 len
 
-abbrev pub keyOf : Three → List ℕ
+abbrev pub keyOf : Key → List ℕ
 keyOf k = bytesOf (k .hi ∷ k .lo ∷ []) (shortOf (k .len))
 
 -- a row with this head hangs right under a place of this depth, by a key, and has a mark
@@ -26,7 +27,7 @@ isTold h depth = eqb (depthIn h) (suc depth) && (eqb (sideIn h) 0 && ltb 0 (mark
 
 -- what row n tells among the keys of a place of this depth
 unfoldable pub keyText : List ℕ → List ℕ → ℕ → ℕ → List ℕ
-keyText heads keys depth n = cond (isTold (getD heads n 0) depth) (keyRow (keyOf (threeAt keys n))) []
+keyText heads keys depth n = cond (isTold (getD heads n 0) depth) (keyRow (keyOf (keyAt keys n))) []
 
 -- what so many rows tell, from one on
 abbrev pub keysFrom : List ℕ → List ℕ → ℕ → ℕ → ℕ → List ℕ

@@ -26,7 +26,8 @@ use Rattle.lines.specs.Spots.{spotOf}
 use Rattle.lines.proofs.Words.{key-back, string-back}
 use Rattle.tables.specs.Words.{bit, side, headWord, mapIn, listIn, spotWords, valueWords, eachValue, marksOf, valuesOf}
 use Rattle.tables.specs.Heads.{headIn}
-use Rattle.tables.specs.Seek.{three, further}
+use Rattle.tables.specs.Heads.{keyIn}
+use Rattle.tables.specs.Seek.{further}
 use Rattle.tables.specs.Finds.{GoodSpot, Narrow, AllNarrow, bit-small, side-small, depth-in, side-in, marks-in, values-in, after}
 use Rattle.tables.specs.Standing.{first, behind}
 use Rattle.tables.specs.Holding.{marksRoom, valuesRoom, Holds, four}
@@ -147,7 +148,7 @@ bit-back : (b : Bool) → eqb (bit b) 1 ≡ b
 bit-back true = refl
 bit-back false = refl
 
-spot-back : (p : Spot) → GoodSpot p → spotOf (spotIn (side p) (three (spotWords p))) ≡ p
+spot-back : (p : Spot) → GoodSpot p → spotOf (spotIn (side p) (keyIn (spotWords p))) ≡ p
 unfolding spotIn
 spot-back (inMap k) g = rw (le-ltb 16 (length k) (g .short)) (ap inMap (key-back k g))
 spot-back (inList i) g = refl

@@ -17,7 +17,9 @@ use Rattle.lines.specs.declared.Spot.{Spot}
 use Rattle.lines.specs.declared.Spot.the-variants.{Key, Element}
 use Rattle.tables.specs.Words.{marksAt, valuesAt, Tables}
 use Rattle.tables.specs.Heads.{headIn}
-use Rattle.tables.specs.Seek.{Three, threeAt, further}
+use Rattle.tables.specs.Heads.{keyAt}
+use Rattle.readers.specs.declared.Key.{Key}
+use Rattle.tables.specs.Seek.{further}
 use Rattle.tables.specs.Standing.{first}
 use Rattle.tables.specs.declared.Head.{Head}
 use Rattle.tables.specs.declared.Position.{Position}
@@ -32,12 +34,12 @@ kindIn k n =
     (cond (ltb k 5) Null (cond (ltb 37 k) Null (String (k - 5)))))))
 
 -- where a row hangs, by its side and its key's words
-unfoldable pub spotIn : ℕ → Three → Spot
+unfoldable pub spotIn : ℕ → Key → Spot
 spotIn s k = cond (eqb s 1) (Element (k .hi)) (cond (ltb 16 (k .len)) (Key (k .hi) (k .lo) 0) (Key (k .hi) (k .lo) (k .len)))
 
 -- the place line of row n, whose head is h
 unfoldable pub placeText : Head → List ℕ → ℕ → List ℕ
-placeText h keys n = lineText (placeLine (h .depth) (spotOf (spotIn (h .side) (threeAt keys n))) (h .map) (h .list))
+placeText h keys n = lineText (placeLine (h .depth) (spotOf (spotIn (h .side) (keyAt keys n))) (h .map) (h .list))
 
 -- value i, and its line
 abbrev pub fourAt : List ℕ → ℕ → List ℕ

@@ -11,7 +11,7 @@ use Rattle.readers.specs.Reads.{either}
 use Rattle.readers.specs.Hex.{wordsIn}
 use Rattle.readers.specs.declared.Key.{Key}
 use Rattle.tables.specs.Words.{marksAt, valuesAt}
-use Rattle.tables.specs.Heads.{headIn, keyIn, keyAt}
+use Rattle.tables.specs.Heads.{headIn, keyIn}
 use Rattle.tables.specs.declared.Head.{Head}
 use Rattle.tables.specs.declared.Aim.{Aim}
 use Rattle.tables.specs.declared.Aim.the-variants as A
@@ -88,13 +88,3 @@ holdsIf b P = either b P (P → ⊥)
 -- in tables with this many rows
 abbrev pub sought : Search → List ℕ → List ℕ → ℕ → Position → Position
 sought w heads keys rows s = seekWords w (drop (s .row) (take rows heads)) (drop (3 * s .row) keys) s
-
--- the words of a key, by older names
-abbrev pub Three : Type 0
-Three = Key
-
-abbrev pub three : List ℕ → Key
-three = keyIn
-
-abbrev pub threeAt : List ℕ → ℕ → Key
-threeAt = keyAt
