@@ -9,7 +9,7 @@ use lib.ListN.{length, length-append}
 use borrow.Rule.Slice.PartMut.{putMid}
 use Rattle.decimal.specs.Take.{Wrote}
 use Rattle.writers.specs.Sized.{Sized}
-use Rattle.writers.proofs.Over.{append-none, restOf, rest-room, came-back, wrote-none, Writing, to-come, all, last-room, room, next}
+use Rattle.writers.proofs.Over.{restOf, rest-room, came-back, wrote-none, Writing, to-come, all, room, next}
 use Rattle.writers.proofs.Texts.{sized}
 use Rattle.sheet.specs.Texts.{texts}
 

@@ -1,5 +1,5 @@
-// The lines of marks, values and rows, one after another. The writers `then_..` go on at the place `at`: the rest of the buffer is lent, and
-// the answer is the place behind what was written.
+// The lines of marks, values and rows, one after another. The writers `then_..` go on at the place `at`: the rest of the buffer is lent,
+// and the answer is the place behind what was written.
 use crate::parts::place_size;
 use crate::parts::put_place;
 use crate::parts::put_value;
@@ -224,7 +224,8 @@ pub fn then_rows(
 ) -> usize
     requires { ⌜ (now powers ≡ powersOfTen) × (rows ≤ headsRoom)
         × (at + length (rowsText (four (now heads) (now keys) (now marks) (now values)) first rows) ≤ length (now buf)) ⌝ }
-    ensures { λ r. ⌜ WroteAt (rowsText (four (now (heads .entry)) (now (keys .entry)) (now (marks .entry)) (now (values .entry))) first rows)
+    ensures { λ r. ⌜ WroteAt
+        (rowsText (four (now (heads .entry)) (now (keys .entry)) (now (marks .entry)) (now (values .entry))) first rows)
         at (now (buf .entry)) (now (buf .exit)) r ⌝ }
 {
     at + put_rows(&mut buf[at..], heads, keys, marks, values, rows, powers)
