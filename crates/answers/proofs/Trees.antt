@@ -19,7 +19,7 @@ use Rattle.lines.specs.Rows.{keyRow}
 use Rattle.lines.proofs.Words.{key-back}
 use Rattle.lines.proofs.Texts.{keys-more}
 use Rattle.tables.specs.Words.{side, headWord, spotWords}
-use Rattle.tables.specs.Heads.{keyIn}
+use Rattle.tables.specs.Heads.{keyIn as wordsKey}
 use Rattle.tables.specs.Finds.{GoodSpot, Narrow, AllNarrow, depth-in, side-in, marks-in}
 use Rattle.tables.specs.Holding.{Holds, four}
 use Rattle.tables.specs.Parts.{holds-narrow, all-narrow-right}
@@ -48,11 +48,11 @@ short-key : (k : List ℕ) → length k ≤ 16 → shortOf (length k) ≡ length
 unfolding shortOf
 short-key k h = rw (le-ltb 16 (length k) h)
 
-key-is : (k : List ℕ) → GoodSpot (inMap k) → keyOf (keyIn (spotWords (inMap k))) ≡ k
+key-is : (k : List ℕ) → GoodSpot (inMap k) → keyOf (wordsKey (spotWords (inMap k))) ≡ k
 key-is k g = rw (short-key k (g .short)) (key-back k g)
 
 tells-as : (b : Bool) (p : Spot) (ms : List ℕ) → GoodSpot p
-    → cond (b && (eqb (side p) 0 && ltb 0 (length ms))) (keyRow (keyOf (keyIn (spotWords p)))) [] ≡ cond b (keyIn p ms) []
+    → cond (b && (eqb (side p) 0 && ltb 0 (length ms))) (keyRow (keyOf (wordsKey (spotWords p)))) [] ≡ cond b (keyIn p ms) []
 tells-as false p ms g = refl
 tells-as true (inList i) ms g = refl
 tells-as true (inMap k) [] g = refl
@@ -84,7 +84,7 @@ module _ (h k m v : List ℕ) (c : Counts) where
     row-tells A r R H =
         let n = narrow A r R H in
         ap₂ (λ w t. cond (isTold w depth) (keyRow (keyOf t)) []) (head-at h k m v c A R r H) (key-at h k m v c A R r H)
-        ∙ (ap (λ b. cond b (keyRow (keyOf (keyIn (spotWords (r .spot))))) []) (told-by r depth n)
+        ∙ (ap (λ b. cond b (keyRow (keyOf (wordsKey (spotWords (r .spot))))) []) (told-by r depth n)
         ∙ tells-as (eqb (r .depth) (suc depth)) (r .spot) (r .marks) (n .spot))
 
     rows-tell : (A B R : List Row) → Held (A ++ (B ++ R)) → keysFrom h k depth (length A) (length B) ≡ rowsTell depth B

@@ -25,8 +25,7 @@ use Rattle.lines.specs.Rows.{valueOf}
 use Rattle.lines.specs.Spots.{spotOf}
 use Rattle.lines.proofs.Words.{key-back, string-back}
 use Rattle.tables.specs.Words.{bit, side, headWord, mapIn, listIn, spotWords, valueWords, eachValue, marksOf, valuesOf}
-use Rattle.tables.specs.Heads.{headIn}
-use Rattle.tables.specs.Heads.{keyIn}
+use Rattle.tables.specs.Heads.{headIn, keyIn}
 use Rattle.tables.specs.Seek.{further}
 use Rattle.tables.specs.Finds.{GoodSpot, Narrow, AllNarrow, bit-small, side-small, depth-in, side-in, marks-in, values-in, after}
 use Rattle.tables.specs.Standing.{first, behind}

@@ -16,9 +16,8 @@ use Rattle.lines.specs.Spots.{spotOf}
 use Rattle.lines.specs.declared.Spot.{Spot}
 use Rattle.lines.specs.declared.Spot.the-variants.{Key, Element}
 use Rattle.tables.specs.Words.{marksAt, valuesAt, Tables}
-use Rattle.tables.specs.Heads.{headIn}
-use Rattle.tables.specs.Heads.{keyAt}
-use Rattle.readers.specs.declared.Key.{Key}
+use Rattle.tables.specs.Heads.{headIn, keyAt}
+use Rattle.readers.specs.declared.Key.{Key as KeyWords}
 use Rattle.tables.specs.Seek.{further}
 use Rattle.tables.specs.Standing.{first}
 use Rattle.tables.specs.declared.Head.{Head}
@@ -34,7 +33,7 @@ kindIn k n =
     (cond (ltb k 5) Null (cond (ltb 37 k) Null (String (k - 5)))))))
 
 -- where a row hangs, by its side and its key's words
-unfoldable pub spotIn : ℕ → Key → Spot
+unfoldable pub spotIn : ℕ → KeyWords → Spot
 spotIn s k = cond (eqb s 1) (Element (k .hi)) (cond (ltb 16 (k .len)) (Key (k .hi) (k .lo) 0) (Key (k .hi) (k .lo) (k .len)))
 
 -- the place line of row n, whose head is h
