@@ -78,8 +78,8 @@ fn reach(
     left: usize,
     deed: Deed,
 ) -> Child
-    ensures { λ r. ⌜ Leads (searchOf n key) (mayMake (key .len) left deed) c from (now (heads .entry)) (now (keys .entry)) (now (heads .exit))
-        (now (keys .exit)) r ⌝ }
+    ensures { λ r. ⌜ Leads (searchOf n key) (mayMake (key .len) left deed) c from (now (heads .entry)) (now (keys .entry))
+        (now (heads .exit)) (now (keys .exit)) r ⌝ }
 {
     let w = search_of(n, key);
     let make = may_make(key.len, left, deed);

@@ -1,5 +1,5 @@
-// Document 01, "What is answered": an operation judged on the document as it stands, before anything is changed. Each function is safe on any
-// memory, and changes none.
+// Document 01, "What is answered": an operation judged on the document as it stands, before anything is changed. Whatever the memory
+// contains, each function stays in bounds and terminates, and it changes no word.
 mod limits;
 
 use limits::goes_down;

@@ -181,7 +181,8 @@ fn then_spot(
     list: bool,
     powers: &[u64; 20],
 ) -> usize
-    requires { ⌜ (now powers ≡ powersOfTen) × ShortKey spot × (at + length (spotText (spotOf spot) (flagsText map list)) ≤ length (now buf)) ⌝ }
+    requires { ⌜ (now powers ≡ powersOfTen) × ShortKey spot
+        × (at + length (spotText (spotOf spot) (flagsText map list)) ≤ length (now buf)) ⌝ }
     ensures { λ r. ⌜ WroteAt (spotText (spotOf spot) (flagsText map list)) at (now (buf .entry)) (now (buf .exit)) r ⌝ }
 {
     at + put_spot(&mut buf[at..], spot, map, list, powers)
@@ -196,7 +197,8 @@ pub fn put_place_line(
     list: bool,
     powers: &[u64; 20],
 ) -> usize
-    requires { ⌜ (now powers ≡ powersOfTen) × ShortKey spot × (length (lineText (placeLine depth (spotOf spot) map list)) ≤ length (now buf)) ⌝ }
+    requires { ⌜ (now powers ≡ powersOfTen) × ShortKey spot
+        × (length (lineText (placeLine depth (spotOf spot) map list)) ≤ length (now buf)) ⌝ }
     ensures { λ r. ⌜ Wrote (lineText (placeLine depth (spotOf spot) map list)) (now (buf .entry)) (now (buf .exit)) r ⌝ }
 {
     let a = put_text(buf, b"place=");

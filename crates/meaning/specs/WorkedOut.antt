@@ -119,7 +119,8 @@ ask (elementOf n w) T buffer =
     record { answer = o .answer; case = readingAnswer (readingOf (o .answer)); written = o .buffer; exit = T }
 
 -- a read of a valid way
-read : {A : Type 0} {Valid : A → Type 0} {text : A → List ℕ} (w : A) → Valid w → (find : A → Document → Finding) (T : Terminal) (buffer : List ℕ)
+read : {A : Type 0} {Valid : A → Type 0} {text : A → List ℕ} (w : A) → Valid w → (find : A → Document → Finding) (T : Terminal)
+    (buffer : List ℕ)
     → readingAnswer (readingOf (answerRead (find w (T .document)) buffer .answer)) ≡ answerRead (find w (T .document)) buffer .answer
     → (a : Reading) × Reads Valid text find (T .document) (text w) buffer a (answerRead (find w (T .document)) buffer .buffer)
     × (readingAnswer a ≡ answerRead (find w (T .document)) buffer .answer) × (T ≡ T)

@@ -1,5 +1,5 @@
--- Where a new element comes, in tables that hold rows: h and k are the words of heads and keys, c the counts; A are the rows before, B those
--- behind.
+-- Where a new element comes, in tables that hold rows: h and k are the words of heads and keys, c the counts; A are the rows before, B
+-- those behind.
 -- Assumes nothing: these are definitions.
 use Prim.Native.Nat.{ℕ}
 use mathlib.Core.Path.{_≡_}

@@ -1,5 +1,5 @@
--- What `find`, `is_at` and `next_row` promise of tables that hold rows: a search from a row on stops behind the rows that it passes over, the
--- row that stands there is told by its words, and the place behind it by its head.
+-- What `find`, `is_at` and `next_row` promise of tables that hold rows: a search from a row on stops behind the rows that it passes over,
+-- the row that stands there is known by its words, and the place behind it by its head.
 -- Assumes nothing.
 use Prim.Native.Nat.{ℕ, _+_, _*_, _≤_, _<_}
 use native.Mathlib.Omega.{arith}

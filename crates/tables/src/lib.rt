@@ -13,8 +13,8 @@ ghost use Rattle.tables.specs.Holding.{withinTables};
 ghost use Rattle.tables.specs.Wants.{searchOf};
 ghost use Rattle.tables.specs.Stands.{FindsIn, Knows};
 
-// How many words each table has, and how many rows, marks and values have room in them. Contracts don't see these numbers: those of the same
-// value stand in specs/Holding.
+// How many words each table has, and how many rows, marks and values have room in them. Contracts don't see these numbers: those of the
+// same value stand in specs/Holding.
 pub const HEADS: usize = 264;
 
 pub const KEYS: usize = 792;
@@ -60,7 +60,8 @@ pub struct Counts {
     pub values: usize,
 }
 
-// What is looked for: a key, an element, the seat of a new element behind its predecessor or behind the head, or the end of what hangs there.
+// What is looked for: a key, an element, the seat of a new element behind its predecessor or behind the head, or the end of what hangs
+// there.
 pub enum Aim {
     Key,
     Element,

@@ -1,5 +1,6 @@
 // The values of a row of the document's tables: those that are covered go, and one comes. Each function is safe on any memory: a place, a
-// count or a table that doesn't fit is found before the first word is written. What they promise of tables that hold rows says specs/Values.
+// count or a table that doesn't fit is found before the first word is written. What they promise of tables that hold rows is in
+// specs/Values.
 use counters::covered;
 use meaning::Counters;
 use tables::Counts;

@@ -3,9 +3,6 @@ use borrow.Author.Needs.{needs}
 use Rattle.tables.proofs.key_at.Statement.{statement}
 use Rattle.tables.proofs.key_at.Tie as tie
 
-returns : tie.Need-returns
-returns c = rw (c .before .before .word .ensures, c .before .word2 .ensures, c .word3 .ensures)
-
 pub key-at-spec : {M : Type 1} → statement M
 key-at-spec =
     tie.close
@@ -16,4 +13,4 @@ key-at-spec =
     (λ c κs. search needs)
     (λ c. search needs)
     (λ c κs. search needs)
-    returns)
+    (λ c. rw (c .before .before .word .ensures, c .before .word2 .ensures, c .word3 .ensures)))
