@@ -6,12 +6,13 @@ use mathlib.Core.Path.{_≡_, refl, sym, ap, _∙_, subst}
 use mathlib.Core.Bool.{Bool, true, false}
 use mathlib.Core.List.{List, [], _∷_, _++_}
 use lib.IntN.{ℤ, pos, negsuc}
+use lib.Dec.{eqb}
 use lib.ListN.{length, getD, drop, drop-of-length-le}
 use Rattle.meaning.specs.Ascii.{byte}
 use Rattle.meaning.specs.Places.{Plain, null, bool, integer, string}
 use Rattle.meaning.specs.Ways.{Assigned, plain, emptyMap, emptyList}
 use Rattle.meaning.specs.Text.{integerText, hex, plainText, assignedText}
-use Rattle.decimal.specs.Take.{Layout, Took, Never}
+use Rattle.decimal.specs.Take.{Layout, Took, Never, fixed}
 use Rattle.readers.specs.Words.{wordsOf, valueWords}
 use Rattle.readers.specs.Reads.{integers, strings, plains, assigned, either, MorePlain, MoreAssigned}
 use Rattle.readers.specs.Hex.{HexTook, ReadsString}
@@ -95,6 +96,44 @@ lettered (bool false) = refl
 lettered (integer n) = refl
 lettered (string b) = refl
 
+-- A plain value is made of each thing of a layout, whose text is what follows the letter.
+record Makes {X : Type 0} (B : Layout X) (make : X → Plain) : Type 0 where
+  same : (x : X) → body (make x) ≡ B .text x
+  valid : (x : X) → B .Valid x → plains .Valid (make x)
+  was-valid : (x : X) → plains .Valid (make x) → B .Valid x
+  more : (x : X) (t : List ℕ) → B .More x t → MorePlain (make x) t
+  was-more : (x : X) (t : List ℕ) → MorePlain (make x) t → B .More x t
+
+-- `n`, `t` and `f` are letters that nothing follows
+bare-made : (v : Plain) → body v ≡ [] → plains .Valid v → ((t : List ℕ) → MorePlain v t) → Makes (fixed []) (λ u. v)
+bare-made v e ok m =
+    record { same = λ u. e; valid = λ u x. ok; was-valid = λ u x. tt; more = λ u t x. m t; was-more = λ u t x. tt }
+
+integer-made : Makes integers integer
+unfolding body
+integer-made = record { same = λ z. refl; valid = λ z v. v; was-valid = λ z v. v; more = λ z t m. m; was-more = λ z t m. m }
+
+string-made : Makes strings string
+unfolding body
+string-made = record { same = λ b. refl; valid = λ b v. v; was-valid = λ b v. v; more = λ b t m. m; was-more = λ b t m. m }
+
+-- what the letter says of a value
+abbrev Of : ℕ → Plain → Type 0
+Of c v =
+    either (eqb c (byte "n")) (v ≡ null)
+    (either (eqb c (byte "t")) (v ≡ bool true)
+    (either (eqb c (byte "f")) (v ≡ bool false)
+    (either (eqb c (byte "i")) ((n : ℤ) × (v ≡ integer n))
+    (either (eqb c (byte "s")) ((b : List ℕ) × (v ≡ string b)) ⊥))))
+
+says : (v : Plain) → Of (letter v) v
+unfolding letter
+says null = refl
+says (bool true) = refl
+says (bool false) = refl
+says (integer n) = (n, refl)
+says (string b) = (b, refl)
+
 -- nothing stands at the end
 pub no-plain-end : (s : List ℕ) (a : ℕ) → length s ≤ a → Never plains s a
 no-plain-end s a h = record {
@@ -112,97 +151,80 @@ module _ (s : List ℕ) (a : ℕ) (inside : a < length s) where
   rest : (v : Plain) (t : List ℕ) → drop a s ≡ plainText v ++ t → drop (a + 1) s ≡ body v ++ t
   rest v t e = ap (λ l. drop 1 l) (apart v t e)
 
-  here : (v : Plain) → getD s a 0 ≡ letter v → (n : ℕ) → drop (a + 1) s ≡ body v ++ drop n s → drop a s ≡ plainText v ++ drop n s
-  here v e n f =
-      next-drop s a inside
-      ∙ (ap (λ c. c ∷ drop (a + 1) s) e ∙ (ap (λ t. letter v ∷ t) f ∙ ap (λ l. l ++ drop n s) (sym (lettered v))))
+  -- a value that stands at this letter is what the letter says
+  said : (c : ℕ) → getD s a 0 ≡ c → (v : Plain) (t : List ℕ) → drop a s ≡ plainText v ++ t → Of c v
+  said c h v t e = subst (λ c. Of c v) (sym (first v t e) ∙ h) (says v)
+
+  -- The values of one letter: each is made of a thing that stands behind the letter, in the layout B.
+  module _ {X : Type 0} (B : Layout X) (make : X → Plain) (M : Makes B make)
+      (made : (v : Plain) (t : List ℕ) → drop a s ≡ plainText v ++ t → (x : X) × (v ≡ make x)) where
+    back : (x : X) (t : List ℕ) → drop a s ≡ plainText (make x) ++ t → drop (a + 1) s ≡ B .text x ++ t
+    back x t e = rest (make x) t e ∙ ap (λ l. l ++ t) (M .same x)
+
+    behind-letter : (x : X) → getD s a 0 ≡ letter (make x) → (n : ℕ) → Took B s (a + 1) x n → Took plains s a (make x) n
+    behind-letter x h n k = record {
+      valid = M .valid x (k .valid);
+      text =
+          next-drop s a inside
+          ∙ (ap (λ c. c ∷ drop (a + 1) s) h
+          ∙ (ap (λ t. letter (make x) ∷ t) (k .text ∙ ap (λ l. l ++ drop n s) (sym (M .same x)))
+          ∙ ap (λ l. l ++ drop n s) (sym (lettered (make x)))));
+      rest = M .more x (drop n s) (k .rest);
+      within = λ i. k .within (omega arith);
+      only = λ v t ok m e. alone v t (made v t e) ok m e;
+    }
+      where
+        alone : (v : Plain) (t : List ℕ) → (y : X) × (v ≡ make y) → plains .Valid v → MorePlain v t → drop a s ≡ plainText v ++ t
+            → (v ≡ make x) × (t ≡ drop n s)
+        alone v t (y, p) ok m e =
+            let q = k .only y t (M .was-valid y (subst (plains .Valid) p ok)) (M .was-more y t (subst (λ v. MorePlain v t) p m))
+            (back y t (subst (λ v. drop a s ≡ plainText v ++ t) p e)) in
+            (p ∙ ap make (q .0), q .1)
+
+    none-behind : Never B s (a + 1) → Never plains s a
+    none-behind k = record { not = λ v t ok m e. none v t (made v t e) ok m e }
+      where
+        none : (v : Plain) (t : List ℕ) → (y : X) × (v ≡ make y) → plains .Valid v → MorePlain v t → drop a s ≡ plainText v ++ t → ⊥
+        none v t (y, p) ok m e =
+            k .not y t (M .was-valid y (subst (plains .Valid) p ok)) (M .was-more y t (subst (λ v. MorePlain v t) p m))
+            (back y t (subst (λ v. drop a s ≡ plainText v ++ t) p e))
+
+  -- nothing follows
+  nothing : Took (fixed []) s (a + 1) tt (a + 1)
+  nothing = record { valid = tt; text = refl; rest = tt; within = λ i. i; only = λ y t ok m e. (refl, sym e) }
 
   pub is-null : getD s a 0 ≡ byte "n" → Took plains s a null (a + 1)
   unfolding letter body
-  is-null h = record { valid = tt; text = here null h (a + 1) refl; rest = tt; within = λ i. omega arith; only = alone }
-    where
-      alone : (v : Plain) (t : List ℕ) → plains .Valid v → MorePlain v t → drop a s ≡ plainText v ++ t → (v ≡ null) × (t ≡ drop (a + 1) s)
-      alone null t ok m e = (refl, sym (rest null t e))
-      alone (bool true) t ok m e = absurd (omega (arith, first (bool true) t e))
-      alone (bool false) t ok m e = absurd (omega (arith, first (bool false) t e))
-      alone (integer n) t ok m e = absurd (omega (arith, first (integer n) t e))
-      alone (string b) t ok m e = absurd (omega (arith, first (string b) t e))
+  is-null h =
+      behind-letter (fixed []) (λ u. null) (bare-made null refl tt (λ t. tt)) (λ v t e. (tt, said (byte "n") h v t e)) tt h (a + 1) nothing
 
   pub is-true : getD s a 0 ≡ byte "t" → Took plains s a (bool true) (a + 1)
   unfolding letter body
-  is-true h = record { valid = tt; text = here (bool true) h (a + 1) refl; rest = tt; within = λ i. omega arith; only = alone }
-    where
-      alone : (v : Plain) (t : List ℕ) → plains .Valid v → MorePlain v t → drop a s ≡ plainText v ++ t → (v ≡ bool true)
-          × (t ≡ drop (a + 1) s)
-      alone null t ok m e = absurd (omega (arith, first null t e))
-      alone (bool true) t ok m e = (refl, sym (rest (bool true) t e))
-      alone (bool false) t ok m e = absurd (omega (arith, first (bool false) t e))
-      alone (integer n) t ok m e = absurd (omega (arith, first (integer n) t e))
-      alone (string b) t ok m e = absurd (omega (arith, first (string b) t e))
+  is-true h =
+      behind-letter (fixed []) (λ u. bool true) (bare-made (bool true) refl tt (λ t. tt)) (λ v t e. (tt, said (byte "t") h v t e)) tt h (a + 1) nothing
 
   pub is-false : getD s a 0 ≡ byte "f" → Took plains s a (bool false) (a + 1)
   unfolding letter body
-  is-false h = record { valid = tt; text = here (bool false) h (a + 1) refl; rest = tt; within = λ i. omega arith; only = alone }
-    where
-      alone : (v : Plain) (t : List ℕ) → plains .Valid v → MorePlain v t → drop a s ≡ plainText v ++ t → (v ≡ bool false)
-          × (t ≡ drop (a + 1) s)
-      alone null t ok m e = absurd (omega (arith, first null t e))
-      alone (bool true) t ok m e = absurd (omega (arith, first (bool true) t e))
-      alone (bool false) t ok m e = (refl, sym (rest (bool false) t e))
-      alone (integer n) t ok m e = absurd (omega (arith, first (integer n) t e))
-      alone (string b) t ok m e = absurd (omega (arith, first (string b) t e))
+  is-false h =
+      behind-letter (fixed []) (λ u. bool false) (bare-made (bool false) refl tt (λ t. tt)) (λ v t e. (tt, said (byte "f") h v t e)) tt h (a + 1) nothing
 
   pub is-integer : getD s a 0 ≡ byte "i" → (n : ℤ) (o : ℕ) → Took integers s (a + 1) n o → Took plains s a (integer n) o
   unfolding letter body
-  is-integer h n o k =
-      record {
-        valid = k .valid;
-        text = here (integer n) h o (k .text);
-        rest = k .rest;
-        within = λ i. k .within (omega arith);
-        only = alone;
-      }
-    where
-      alone : (v : Plain) (t : List ℕ) → plains .Valid v → MorePlain v t → drop a s ≡ plainText v ++ t → (v ≡ integer n) × (t ≡ drop o s)
-      alone null t ok m e = absurd (omega (arith, first null t e))
-      alone (bool true) t ok m e = absurd (omega (arith, first (bool true) t e))
-      alone (bool false) t ok m e = absurd (omega (arith, first (bool false) t e))
-      alone (integer z) t ok m e = let q = k .only z t ok m (rest (integer z) t e) in (ap integer (q .0), q .1)
-      alone (string b) t ok m e = absurd (omega (arith, first (string b) t e))
+  is-integer h n =
+      behind-letter integers integer integer-made (said (byte "i") h) n h
 
   pub no-integer : getD s a 0 ≡ byte "i" → Never integers s (a + 1) → Never plains s a
   unfolding letter body
-  no-integer h k = record { not = none }
-    where
-      none : (v : Plain) (t : List ℕ) → plains .Valid v → MorePlain v t → drop a s ≡ plainText v ++ t → ⊥
-      none null t ok m e = omega (arith, first null t e)
-      none (bool true) t ok m e = omega (arith, first (bool true) t e)
-      none (bool false) t ok m e = omega (arith, first (bool false) t e)
-      none (integer z) t ok m e = k .not z t ok m (rest (integer z) t e)
-      none (string b) t ok m e = omega (arith, first (string b) t e)
+  no-integer h = none-behind integers integer integer-made (said (byte "i") h)
 
   pub is-string : getD s a 0 ≡ byte "s" → (b : List ℕ) (o : ℕ) → Took strings s (a + 1) b o → Took plains s a (string b) o
   unfolding letter body
-  is-string h b o k =
-      record { valid = k .valid; text = here (string b) h o (k .text); rest = k .rest; within = λ i. k .within (omega arith); only = alone }
-    where
-      alone : (v : Plain) (t : List ℕ) → plains .Valid v → MorePlain v t → drop a s ≡ plainText v ++ t → (v ≡ string b) × (t ≡ drop o s)
-      alone null t ok m e = absurd (omega (arith, first null t e))
-      alone (bool true) t ok m e = absurd (omega (arith, first (bool true) t e))
-      alone (bool false) t ok m e = absurd (omega (arith, first (bool false) t e))
-      alone (integer z) t ok m e = absurd (omega (arith, first (integer z) t e))
-      alone (string c) t ok m e = let q = k .only c t ok m (rest (string c) t e) in (ap string (q .0), q .1)
+  is-string h b =
+      behind-letter strings string string-made (said (byte "s") h) b h
 
   pub no-string : getD s a 0 ≡ byte "s" → Never strings s (a + 1) → Never plains s a
   unfolding letter body
-  no-string h k = record { not = none }
-    where
-      none : (v : Plain) (t : List ℕ) → plains .Valid v → MorePlain v t → drop a s ≡ plainText v ++ t → ⊥
-      none null t ok m e = omega (arith, first null t e)
-      none (bool true) t ok m e = omega (arith, first (bool true) t e)
-      none (bool false) t ok m e = omega (arith, first (bool false) t e)
-      none (integer z) t ok m e = omega (arith, first (integer z) t e)
-      none (string b) t ok m e = k .not b t ok m (rest (string b) t e)
+  no-string h = none-behind strings string string-made (said (byte "s") h)
 
   pub no-letter : (getD s a 0 ≡ byte "n" → ⊥) → (getD s a 0 ≡ byte "t" → ⊥) → (getD s a 0 ≡ byte "f" → ⊥) → (getD s a 0 ≡ byte "i" → ⊥)
       → (getD s a 0 ≡ byte "s" → ⊥) → Never plains s a
@@ -215,23 +237,6 @@ module _ (s : List ℕ) (a : ℕ) (inside : a < length s) where
       none (bool false) u ok m e = f (first (bool false) u e)
       none (integer z) u ok m e = i (first (integer z) u e)
       none (string c) u ok m e = b (first (string c) u e)
-
-  -- `{` and `[` begin no plain value
-  no-brace : (v : Plain) (t : List ℕ) → drop a s ≡ plainText v ++ t → getD s a 0 ≡ byte "{" → ⊥
-  unfolding letter
-  no-brace null t e h = omega (arith, first null t e)
-  no-brace (bool true) t e h = omega (arith, first (bool true) t e)
-  no-brace (bool false) t e h = omega (arith, first (bool false) t e)
-  no-brace (integer n) t e h = omega (arith, first (integer n) t e)
-  no-brace (string b) t e h = omega (arith, first (string b) t e)
-
-  no-bracket : (v : Plain) (t : List ℕ) → drop a s ≡ plainText v ++ t → getD s a 0 ≡ byte "[" → ⊥
-  unfolding letter
-  no-bracket null t e h = omega (arith, first null t e)
-  no-bracket (bool true) t e h = omega (arith, first (bool true) t e)
-  no-bracket (bool false) t e h = omega (arith, first (bool false) t e)
-  no-bracket (integer n) t e h = omega (arith, first (integer n) t e)
-  no-bracket (string b) t e h = omega (arith, first (string b) t e)
 
   -- a fixed letter at a
   at-letter : (c : ℕ) (t : List ℕ) → drop a s ≡ c ∷ t → (getD s a 0 ≡ c) × (t ≡ drop (a + 1) s)
@@ -250,7 +255,7 @@ module _ (s : List ℕ) (a : ℕ) (inside : a < length s) where
     where
       alone : (v : Assigned) (t : List ℕ) → assigned .Valid v → MoreAssigned v t → drop a s ≡ assignedText v ++ t → (v ≡ emptyMap)
           × (t ≡ drop (a + 1) s)
-      alone (plain v) t ok m e = absurd (no-brace v t e h)
+      alone (plain v) t ok m e = absurd (said (byte "{") h v t e)
       alone emptyMap t ok m e = (refl, at-letter (byte "{") t e .1)
       alone emptyList t ok m e = absurd (omega (arith, at-letter (byte "[") t e .0))
 
@@ -267,7 +272,7 @@ module _ (s : List ℕ) (a : ℕ) (inside : a < length s) where
     where
       alone : (v : Assigned) (t : List ℕ) → assigned .Valid v → MoreAssigned v t → drop a s ≡ assignedText v ++ t → (v ≡ emptyList)
           × (t ≡ drop (a + 1) s)
-      alone (plain v) t ok m e = absurd (no-bracket v t e h)
+      alone (plain v) t ok m e = absurd (said (byte "[") h v t e)
       alone emptyMap t ok m e = absurd (omega (arith, at-letter (byte "{") t e .0))
       alone emptyList t ok m e = (refl, at-letter (byte "[") t e .1)
 
