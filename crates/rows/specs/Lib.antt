@@ -10,3 +10,4 @@ pub mod Counting
 pub mod Balanced
 pub mod Room
 pub mod Within
+pub mod Sought
