@@ -34,7 +34,7 @@ use Rattle.values.specs.Values.{Sets}
 use Rattle.clear.specs.Clear.{Clears}
 use Rattle.deeds.specs.Deeds.{isDelete, givenIn, branchOf, stringKind, kindOf, partsOf}
 use Rattle.act.specs.Acting.{Spare, Does, Gives, Finishes}
-use Rattle.act.specs.declared.Act.{Act}
+use Rattle.message.specs.declared.Act.{Act}
 use Rattle.words.specs.Gap.{Leaves}
 use Rattle.tables.specs.Placed.{placed}
 use Rattle.steps.proofs.Marked.{holds-gap}

@@ -18,7 +18,7 @@ use Rattle.deeds.specs.Deeds.{givenIn}
 use Rattle.seats.specs.Seats.{Sits, SitsNot, Seats}
 use Rattle.seats.specs.declared.Seat.{Seat}
 use Rattle.act.specs.Acting.{Gives, Inserts}
-use Rattle.act.specs.declared.Act.{Act}
+use Rattle.message.specs.declared.Act.{Act}
 use Rattle.act.proofs.Gaps.{mark-further, leaves-still}
 use Rattle.act.proofs.Counted.{opened-counts}
 

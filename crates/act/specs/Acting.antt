@@ -23,7 +23,7 @@ use Rattle.tables.specs.Holding.{Holds, four}
 use Rattle.tables.specs.declared.Counts.{Counts}
 use Rattle.tables.specs.declared.Position.{Position}
 use Rattle.deeds.specs.Deeds.{isDelete}
-use Rattle.act.specs.declared.Act.{Act}
+use Rattle.message.specs.declared.Act.{Act}
 
 -- the block of the row r, which stands before the rows R
 abbrev pub blockAt : ℕ → Row → List Row → Block

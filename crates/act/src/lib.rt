@@ -6,7 +6,7 @@ use deeds::is_delete;
 use deeds::kind_of;
 use deeds::parts_of;
 use meaning::Counters;
-use message::Deed;
+use message::Act;
 use readers::Given;
 use seats::find_seat;
 use steps::WithGap;
@@ -14,14 +14,6 @@ use tables::Counts;
 use tables::Position;
 ghost use Rattle.tables.specs.Holding.{four};
 ghost use Rattle.act.specs.Acting.{Gives, Finishes, Inserts};
-
-// What is done, and by which operation.
-pub struct Act {
-    pub id: u64,
-    pub deps: Counters,
-    pub deed: Deed,
-    pub words: [u64; 4],
-}
 
 // Assigns at a row: a plain value takes the place of those that deps cover; an empty map or list clears the place. The mark is the first of
 // n that are to be put in.

@@ -27,7 +27,7 @@ use Rattle.rows.specs.Within.{underRows, apply-under}
 use Rattle.rows.specs.Counting.{Fresh}
 use Rattle.rows.specs.Room.{sound-fresh}
 use Rattle.counters.specs.Counted.{raised}
-use Rattle.message.specs.Means.{deedWords}
+use Rattle.message.specs.Means.{deedWords, Means}
 use Rattle.message.specs.declared.Operation.{Operation}
 use Rattle.tables.specs.Words.{Tables}
 use Rattle.tables.specs.Holding.{Holds}
@@ -38,50 +38,47 @@ use Rattle.words.proofs.Gap.{gap-closed}
 use Rattle.act.specs.Acting.{marksBy, withMarks}
 use Rattle.descend.specs.Doing.{Descends}
 use Rattle.act.proofs.Gaps.{marks-most}
-use Rattle.act.specs.declared.Act.{Act}
-use Rattle.judging.specs.Judging.{isTaken, judgementOf, byCounters, readyVerdict, verdictBy, verdict, Parts, Tops, Judges}
+use Rattle.judging.specs.Judging.{isTaken, judgementOf, byCounters, readyVerdict, verdictBy, verdict, Newer, Tops, Judges}
 use Rattle.judging.specs.declared.Refusal.the-variants as F
 use Rattle.judging.specs.declared.Readiness.the-variants as B
 use Rattle.judging.specs.declared.ReadyJudgement.{ReadyJudgement}
 use Rattle.judging.specs.declared.ReadyJudgement.the-variants as Y
 use Rattle.judging.specs.declared.Judgement.{Judgement}
 use Rattle.judging.proofs.Tops.{rows-top}
-use Rattle.judging.proofs.Verdicts.{whole, steps-whole, deed-whole, way-part, cut-short, parts-of}
+use Rattle.judging.proofs.Verdicts.{whole, steps-whole, deed-whole, way-part, cut-short}
 use Rattle.judging.proofs.Judged.{newer, here-stores}
-use Rattle.apply.specs.Applying.{CarriesWay, CarriesOut, TakesOn, Applies}
+use Rattle.apply.specs.Applying.{CarriesOut, TakesAt, TakesOn, Applies}
 use Rattle.apply.specs.declared.Later.{Later}
 
--- what is done, of an operation
-abbrev pub actOf : Operation → Act
-actOf op = record { id = op .id; deps = op .deps; deed = op .deed; words = op .words }
+module _ (T : Tables) (c : Counts) (s : Position) (op : Operation) where
+  pub carry-long : 8 < op .way .n → CarriesOut T c s op c T
+  carry-long l D o S m val y t = absurd (omega (arith, l, steps-whole op o m val .0, steps-whole op o m val .1))
 
-module _ (T : Tables) (c : Counts) (s : Position) (a : Act) (ks : List ℕ) (n : ℕ) where
-  pub carry-long : 8 < n → CarriesWay T c s a ks n c T
-  carry-long l D o S q w val y t = absurd (omega (arith, l, steps-whole _ _ _ ks n o q val .0, steps-whole _ _ _ ks n o q val .1))
+  pub carry-cut : length (op .way .keys) < 3 * op .way .n → CarriesOut T c s op c T
+  carry-cut l D o S m val y t = absurd (cut-short op o m val l)
 
-  pub carry-cut : length ks < 3 * n → CarriesWay T c s a ks n c T
-  carry-cut l D o S q w val y t = absurd (cut-short _ _ _ ks n o q val l)
-
-module _ (T U : Tables) (c e : Counts) (s : Position) (a : Act) (ks : List ℕ) (n : ℕ) where
-  value-whole : (o : M.Operation) → a .words ≡ deedWords (o .way) → a .words ≡ deedWords (whole o)
+module _ (T U : Tables) (c e : Counts) (s : Position) (op : Operation) where
+  value-whole : (o : M.Operation) → Means op o → op .act .words ≡ deedWords (whole o)
   unfolding deedWords
-  value-whole o q = q
+  value-whole o m = m .edit .words
 
-  same-rows : (o : M.Operation) (rs : List Row) → Parts (a .id) (a .deps .at) (a .deed) ks n o
-      → underRows (a .id) (a .deps .at) 1 (whole o) rs ≡ applyRows o rs
-  same-rows o rs q = ap₂ (λ i d. underRows i d 1 (whole o) rs) (q .id) (q .deps) ∙ sym (apply-under o rs)
+  same-rows : (o : M.Operation) (rs : List Row) → Means op o
+      → underRows (op .act .id) (op .act .deps .at) 1 (whole o) rs ≡ applyRows o rs
+  same-rows o rs m = ap₂ (λ i d. underRows i d 1 (whole o) rs) (m .id) (m .deps) ∙ sym (apply-under o rs)
 
   -- below the root no mark is left to be put in: the gap is closed
-  pub carry-way : (way : List ℕ) (p : ℕ) → way ≡ take (3 * n) ks → Descends a 1 way s c T e p U → CarriesWay T c s a ks n e U
+  pub carry-way : (way : List ℕ) (p : ℕ) → way ≡ take (3 * op .way .n) (op .way .keys) → Descends (op .act) 1 way s c T e p U
+      → CarriesOut T c s op e U
   unfolding steps
-  carry-way way p part X D o S q w val y t =
+  carry-way way p part X D o S m val y t =
+      let a = op .act in
       let l = fits-limits D (S .limits) in
       let r = val .edit .reach in
       let over-it = over 1 (keyBelow (o .top)) in
       let H = subst (Holds T c) (sym (passed-rest over-it (rowsOf D))) (S .rows) in
-      let f = subst (λ i. Fresh i (rowsOf D)) (sym (q .id)) (sound-fresh D (o .id) (S .sound) y) in
-      let d = X (passed over-it (rowsOf D)) (rest over-it (rowsOf D)) (whole o) H t (part ∙ way-part _ _ _ ks n o q val)
-      (val .edit .first, val .edit .rest) (deed-whole _ _ _ ks n o q val) (value-whole o w) (omega (arith, r))
+      let f = subst (λ i. Fresh i (rowsOf D)) (sym (m .id)) (sound-fresh D (o .id) (S .sound) y) in
+      let d = X (passed over-it (rowsOf D)) (rest over-it (rowsOf D)) (whole o) H t (part ∙ way-part op o m val)
+      (val .edit .first, val .edit .rest) (deed-whole op o m val) (value-whole o m) (omega (arith, r))
       (fresh-parts (a .id) over-it (rowsOf D) f .1) (omega arith) (record {
         rows-spare = omega (arith, r, l .places, S .rows .rows-are);
         marks-spare = omega (arith, r, l .marks, S .rows .marks-are);
@@ -92,18 +89,10 @@ module _ (T U : Tables) (c e : Counts) (s : Position) (a : Act) (ks : List ℕ) 
       sym (gap-closed p (U .marks) (d .table) (subst (λ g. Gap g p (U .marks) (d .table)) none (d .gap))) in
       let rows = passed over-it (rowsOf D) ++ underRows (a .id) (a .deps .at) 1 (whole o) (rest over-it (rowsOf D)) in
       subst (Holds U e)
-      (rows-top 1 (o .top) (o .way) (rowsOf D) (a .id) (a .deps .at) ∙ (same-rows o (rowsOf D) q ∙ apply-rows o D))
+      (rows-top 1 (o .top) (o .way) (rowsOf D) (a .id) (a .deps .at) ∙ (same-rows o (rowsOf D) m ∙ apply-rows o D))
       (subst (λ t. Holds (withMarks U t) e rows) shut (d .is .holds))
 
-pub carry-out : (T U : Tables) (c e : Counts) (s : Position) (op : Operation)
-    → CarriesWay T c s (actOf op) (op .way .keys) (op .way .n) e U → CarriesOut T c s op e U
-carry-out T U c e s op C D o S q val y t = C D o S (parts-of op o q) (q .edit .words) val y t
-
 -- An operation that is taken.
-
-record Taken (o : M.Operation) (D : Document) : Type 0 where
-  new : repeated (D .seen) o ≡ false
-  room : fits (apply o D) ≡ true
 
 -- by the counters
 taken-ready : (a b c d : Bool) (y : ReadyJudgement)
@@ -117,36 +106,53 @@ taken-ready false false false true y t = (refl, t)
 taken-ready false false false false y t = absurd (false≢true t)
 
 -- by the rest
-taken-fits : (a b c : Bool) → isTaken (judgementOf (cond a Y.NoElement (cond b Y.NotSmaller (cond c Y.Taken Y.NoRoom)))) ≡ true → c ≡ true
-taken-fits true b c t = absurd (false≢true t)
-taken-fits false true c t = absurd (false≢true t)
+taken-is : (y : ReadyJudgement) → isTaken (judgementOf y) ≡ true → y ≡ Y.Taken
+taken-is Y.Taken t = refl
+taken-is Y.NoElement t = absurd (false≢true t)
+taken-is Y.NotSmaller t = absurd (false≢true t)
+taken-is Y.NoRoom t = absurd (false≢true t)
+
+taken-fits : (a b c : Bool) → cond a Y.NoElement (cond b Y.NotSmaller (cond c Y.Taken Y.NoRoom)) ≡ Y.Taken → c ≡ true
+taken-fits true b c t = absurd (false≢true (ap (λ y. isTaken (judgementOf y)) t))
+taken-fits false true c t = absurd (false≢true (ap (λ y. isTaken (judgementOf y)) t))
 taken-fits false false true t = refl
-taken-fits false false false t = t
+taken-fits false false false t = absurd (false≢true (ap (λ y. isTaken (judgementOf y)) t))
+
+room-left : (o : M.Operation) (D : Document) → readyVerdict o D ≡ Y.Taken → fits (apply o D) ≡ true
+unfolding readyVerdict
+room-left o D t = taken-fits (astray D o) (downward o) (fits (apply o D)) t
+
+-- a verdict that takes it: it is newer, and was judged so where it is ready
+record Taken (o : M.Operation) (D : Document) : Type 0 where
+  new : Newer D o
+  is : readyVerdict o D ≡ Y.Taken
 
 verdict-taken : (o : M.Operation) (D : Document) → isTaken (verdict o D) ≡ true → Taken o D
-unfolding verdict byCounters readyVerdict
+unfolding verdict byCounters
 verdict-taken o D t =
     let a = taken-ready (notAbove o) (repeated (D .seen) o) (ownDepsBehind (D .seen) o) (readyIn D o) (readyVerdict o D) t in
-    record { new = a .0; room = taken-fits (astray D o) (downward o) (fits (apply o D)) (a .1) }
+    record { new = newer D o (a .0); is = taken-is (readyVerdict o D) (a .1) }
 
 raised-seen : (s : List ℕ) (o : M.Operation) → ValidOperation o → raised s (o .id) ≡ raise s (o .id)
 unfolding raised
 raised-seen s o val = rw (le-leb (counterOf (o .id)) 4294967295 (val .id .high))
 
-pub takes-on : (T : Tables) (c : Counts) (seen : Counters) (op : Operation) (U : Tables) (e : Counts) (after : Counters)
-    → (s : Position) → Tops T c (op .way .keys) s → CarriesOut T c s op e U → after .at ≡ raised (seen .at) (op .id)
-    → TakesOn T c seen op (record { counts = e; seen = after }) U
-unfolding apply
-takes-on T c seen op U e after s P C r D o S m val y =
-    let k = verdict-taken o D y in
-    let n = newer D o (k .new) in
-    let S′ = here-stores T c (seen .at) D S in
-    record {
-      rows = C D o S′ m val n (P D o S′ (m .edit .keys) val);
-      counters = r ∙ (ap₂ raised (S .counters) (m .id) ∙ raised-seen (D .seen) o val);
-      sound = sound-apply o D val n (S .sound);
-      limits = k .room;
-    }
+module _ (T : Tables) (c : Counts) (seen : Counters) (op : Operation) (U : Tables) where
+  pub takes-at : (e : Counts) (after : Counters) (s : Position) → CarriesOut T c s op e U → after .at ≡ raised (seen .at) (op .act .id)
+      → TakesAt T c seen s op (record { counts = e; seen = after }) U
+  unfolding apply
+  takes-at e after s C r D o S m val n y t =
+      record {
+        rows = C D o (here-stores T c (seen .at) D S) m val n t;
+        counters = r ∙ (ap₂ raised (S .counters) (m .id) ∙ raised-seen (D .seen) o val);
+        sound = sound-apply o D val n (S .sound);
+        limits = room-left o D y;
+      }
+
+  pub takes-on : (l : Later) (s : Position) → Tops T c (op .way .keys) s → TakesAt T c seen s op l U → TakesOn T c seen op l U
+  takes-on l s P K D o S m val y =
+      let k = verdict-taken o D y in
+      K D o S m val (k .new) (k .is) (P D o (here-stores T c (seen .at) D S) (m .edit .keys) val)
 
 module _ (T : Tables) (c : Counts) (seen : Counters) (op : Operation) (a : Judgement) (G : Judges T c seen op a) where
   pub applies-taken : (U : Tables) (l : Later) → isTaken a ≡ true → TakesOn T c seen op l U

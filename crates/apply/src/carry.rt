@@ -1,10 +1,11 @@
 // An operation that is taken, carried out along its way.
-use act::Act;
+use message::Act;
 use message::Operation;
 use tables::Counts;
 use tables::Position;
 ghost use Rattle.tables.specs.Holding.{four};
-ghost use Rattle.apply.specs.Applying.{CarriesWay, CarriesOut};
+ghost use Rattle.judging.specs.Judging.{along};
+ghost use Rattle.apply.specs.Applying.{CarriesOut};
 
 // Carries out what o says; `words` are those of its way, of n keys.
 fn carry_way(
@@ -18,8 +19,8 @@ fn carry_way(
     words: &[u64],
     n: usize,
 ) -> Counts
-    ensures { λ e. ⌜ CarriesWay (four (now (heads .entry)) (now (keys .entry)) (now (marks .entry)) (now (values .entry))) c top o
-        (now (words .entry)) n e (four (now (heads .exit)) (now (keys .exit)) (now (marks .exit)) (now (values .exit))) ⌝ }
+    ensures { λ e. ⌜ CarriesOut (four (now (heads .entry)) (now (keys .entry)) (now (marks .entry)) (now (values .entry))) c top
+        (along o (now (words .entry)) n) e (four (now (heads .exit)) (now (keys .exit)) (now (marks .exit)) (now (values .exit))) ⌝ }
 {
     if n > 8 {
         return c;
@@ -45,16 +46,8 @@ pub fn carry_out(
     ensures { λ e. ⌜ CarriesOut (four (now (heads .entry)) (now (keys .entry)) (now (marks .entry)) (now (values .entry))) c top op e
         (four (now (heads .exit)) (now (keys .exit)) (now (marks .exit)) (now (values .exit))) ⌝ }
 {
+    let act = op.act;
     let way = op.way;
     let words = way.keys;
-    let deps = op.deps;
-    let deed = op.deed;
-    let parts = op.words;
-    let o = Act {
-        id: op.id,
-        deps,
-        deed,
-        words: parts,
-    };
-    carry_way(heads, keys, marks, values, c, top, o, &words, way.n)
+    carry_way(heads, keys, marks, values, c, top, act, &words, way.n)
 }

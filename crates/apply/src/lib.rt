@@ -13,8 +13,9 @@ use judging::top_of;
 use meaning::Counters;
 use message::Operation;
 use tables::Counts;
+use tables::Position;
 ghost use Rattle.tables.specs.Holding.{four};
-ghost use Rattle.apply.specs.Applying.{TakesOn, Applies};
+ghost use Rattle.apply.specs.Applying.{TakesAt, TakesOn, Applies};
 
 pub struct Outcome {
     pub answer: Judgement,
@@ -28,7 +29,29 @@ pub struct Later {
     pub seen: Counters,
 }
 
-// Takes an operation that was judged so: carries it out, and raises seen.
+// Takes an operation that was judged so, from where the search for its first key stops: carries it out, and raises seen.
+pub fn take_at(
+    heads: &mut [u64],
+    keys: &mut [u64],
+    marks: &mut [u64],
+    values: &mut [u64],
+    c: Counts,
+    seen: Counters,
+    top: Position,
+    op: Operation,
+) -> Later
+    ensures { λ r. ⌜ TakesAt (four (now (heads .entry)) (now (keys .entry)) (now (marks .entry)) (now (values .entry))) c seen top op r
+        (four (now (heads .exit)) (now (keys .exit)) (now (marks .exit)) (now (values .exit))) ⌝ }
+{
+    let counts = carry_out(heads, keys, marks, values, c, top, op);
+    let after = counters::raise(seen, op.act.id);
+    Later {
+        counts,
+        seen: after,
+    }
+}
+
+// The same, where the first key is still to be looked for.
 pub fn take(
     heads: &mut [u64],
     keys: &mut [u64],
@@ -42,12 +65,7 @@ pub fn take(
         (four (now (heads .exit)) (now (keys .exit)) (now (marks .exit)) (now (values .exit))) ⌝ }
 {
     let top = top_of(heads, keys, c.rows, op);
-    let counts = carry_out(heads, keys, marks, values, c, top, op);
-    let after = counters::raise(seen, op.id);
-    Later {
-        counts,
-        seen: after,
-    }
+    take_at(heads, keys, marks, values, c, seen, top, op)
 }
 
 // Judges an operation, and takes it if it may be. A refusal changes nothing.
@@ -76,8 +94,9 @@ pub fn apply(
                     seen,
                 };
             }
-            let counts = carry_out(heads, keys, marks, values, c, top, op);
-            let raised = counters::raise(seen, op.id);
+            let later = take_at(heads, keys, marks, values, c, seen, top, op);
+            let counts = later.counts;
+            let raised = later.seen;
             Outcome {
                 answer,
                 counts,

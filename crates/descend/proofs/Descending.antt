@@ -25,7 +25,7 @@ use Rattle.tables.specs.declared.Counts.{Counts}
 use Rattle.tables.specs.declared.Position.{Position}
 use Rattle.deeds.specs.Deeds.{isDelete, mayMake, insertsHere}
 use Rattle.act.specs.Acting.{blockAt, marksBy, withMarks, Spare, Does, Finishes, Inserts}
-use Rattle.act.specs.declared.Act.{Act}
+use Rattle.message.specs.declared.Act.{Act}
 use Rattle.act.proofs.Gaps.{marks-all, marks-most, mark-further, mark-next, leaves-still}
 use Rattle.descend.specs.Reach.{changing}
 use Rattle.descend.specs.Going.{threeKey, words-long, words-none, inserts-only, goes-on, third-word, Goes, goes}

@@ -17,7 +17,7 @@ use Rattle.tables.specs.declared.Position.{Position}
 use Rattle.steps.specs.Steps.{Flags, Marks}
 use Rattle.deeds.specs.Deeds.{isDelete}
 use Rattle.act.specs.Acting.{Does}
-use Rattle.act.specs.declared.Act.{Act}
+use Rattle.message.specs.declared.Act.{Act}
 use Rattle.act.proofs.Gaps.{marks-none, marks-all}
 use Rattle.act.proofs.Counted.{row-does, marked-more, flag-marks, flag-values}
 use Rattle.descend.specs.Doing.{Enters}

@@ -24,7 +24,7 @@ use Rattle.tables.specs.declared.Counts.{Counts}
 use Rattle.tables.specs.declared.Position.{Position}
 use Rattle.tables.specs.declared.Search.{Search}
 use Rattle.act.specs.Acting.{Spare, Does, marksBy, withMarks}
-use Rattle.act.specs.declared.Act.{Act}
+use Rattle.message.specs.declared.Act.{Act}
 use Rattle.descend.specs.Reach.{Reached, changing}
 use Rattle.descend.specs.declared.Child.{Child}
 

@@ -1,12 +1,12 @@
 // Document 01, "What an operation does": an operation carried out on the tables, in place. The way is followed from the root down; what its
 // end says is done first, and each place on the way is marked on the way back, so that no step moves what a later one looks for. At the end
 // of the way a gap of as many words as there are marks to put in stands in the marks; it travels to the front, and no mark is moved twice.
-use act::Act;
 use act::finish;
 use act::put_element;
 use deeds::inserts_here;
 use deeds::is_delete;
 use deeds::may_make;
+use message::Act;
 use message::Deed;
 use readers::Key;
 use readers::LONGEST;

@@ -1,6 +1,7 @@
 -- Deeds by number: a way is weighed by the number of its deed.
 -- Assumes nothing.
 use Prim.Native.Nat.{ℕ}
+use native.Mathlib.Omega.{arith}
 use mathlib.Core.Path.{_≡_, refl, ap, _∙_}
 use mathlib.Core.Bool.{Bool, true, false, cond}
 use mathlib.Core.List.{List}
@@ -9,7 +10,7 @@ use Rattle.meaning.specs.Places.{null, bool, integer, string}
 use Rattle.meaning.specs.Ways.{Assigned, plain, emptyMap, emptyList, Way, assign, delete, insert, intoMap, intoList}
 use Rattle.readers.specs.Given.{givenOf}
 use Rattle.message.specs.Means.{deedOf}
-use Rattle.message.specs.declared.Deed.{Deed}
+use Rattle.message.specs.declared.Act.{Act}
 use Rattle.tables.specs.declared.Position.{Position}
 use Rattle.forecast.specs.declared.Weight.{Weight}
 use Rattle.forecast.specs.Weighs.{plainGiven, deedNumber, isPlain, wayNumber, WayWeighed, Weighed}
@@ -33,10 +34,10 @@ deed-number (insert p a) = ap (λ b. cond b 3 4) (given-plain a)
 deed-number (intoMap k w) = deed-number w
 deed-number (intoList e w) = deed-number w
 
-pub deed-weighed : (h k m v : List ℕ) (rows : ℕ) (from : Position) (n : ℕ) (parent-known : Bool) (d : List ℕ) (deed : Deed) (i : ℕ) (way : List ℕ)
-    (x : Weight) → i ≡ deedNumber deed → WayWeighed h k m v rows from n parent-known d i way x → Weighed h k m v rows from n parent-known d deed way x
-deed-weighed h k m v rows from n parent-known d deed i way x z W = record {
+pub deed-weighed : (h k m v : List ℕ) (rows : ℕ) (top : Position) (o : Act) (i : ℕ) (way : List ℕ) (x : Weight) → i ≡ deedNumber (o .deed)
+    → WayWeighed h k m v rows top 1 true (o .deps .at) i way x → Weighed h k m v rows top o way x
+deed-weighed h k m v rows top o i way x z W = record {
   few-places = W .few-places;
   few-marks = W .few-marks;
-  is = λ c A B w H q f e g ok N. W .is c A B w H q f e (z ∙ (ap deedNumber g ∙ deed-number w)) ok N;
+  is = λ c A B w H q f e g ok N. W .is c A B w H q (λ t. f) e (z ∙ (ap deedNumber g ∙ deed-number w)) ok (omega (arith, N));
 }

@@ -18,6 +18,7 @@ use Rattle.rows.specs.Within.{underChange}
 use Rattle.readers.specs.declared.Given.{Given}
 use Rattle.readers.specs.declared.Given.the-variants as G
 use Rattle.message.specs.Means.{wayWords, deedOf}
+use Rattle.message.specs.declared.Act.{Act}
 use Rattle.message.specs.declared.Deed.{Deed}
 use Rattle.message.specs.declared.Deed.the-variants as D
 use Rattle.tables.specs.Standing.{behind}
@@ -144,10 +145,9 @@ pub record WayWeighed (h k m v : List ℕ) (rows : ℕ) (from : Position) (n : �
       → (parent-known ≡ true → from ≡ behind A) → way ≡ wayWords w → deed ≡ wayNumber w → ValidWay w → n + steps w ≤ 9
       → Weighs (elementsFoundRows d n w (cond parent-known B [])) (underChange d n w (cond parent-known B [])) x
 
-pub record Weighed (h k m v : List ℕ) (rows : ℕ) (from : Position) (n : ℕ) (parent-known : Bool) (d : List ℕ) (deed : Deed) (way : List ℕ)
-    (x : Weight) : Type 0 where
+-- the way of an operation that does o, from the root on
+pub record Weighed (h k m v : List ℕ) (rows : ℕ) (top : Position) (o : Act) (way : List ℕ) (x : Weight) : Type 0 where
   pub few-places : x .places ≤ length way
   pub few-marks : x .marks ≤ length way
-  pub is : (c : Counts) (A B : List Row) (w : Way) → Holds (four h k m v) c (A ++ B) → rows ≡ c .rows
-      → (parent-known ≡ true → from ≡ behind A) → way ≡ wayWords w → deed ≡ deedOf w → ValidWay w → n + steps w ≤ 9
-      → Weighs (elementsFoundRows d n w (cond parent-known B [])) (underChange d n w (cond parent-known B [])) x
+  pub is : (c : Counts) (A B : List Row) (w : Way) → Holds (four h k m v) c (A ++ B) → rows ≡ c .rows → top ≡ behind A → way ≡ wayWords w
+      → o .deed ≡ deedOf w → ValidWay w → steps w ≤ 8 → Weighs (elementsFoundRows (o .deps .at) 1 w B) (underChange (o .deps .at) 1 w B) x

@@ -12,7 +12,7 @@ pub use loss::gone;
 pub use loss::gone_row;
 pub use loss::gone_under;
 use meaning::Counters;
-use message::Deed;
+use message::Act;
 use readers::CARET;
 use readers::ELEMENT;
 use readers::Key;
@@ -268,34 +268,34 @@ fn weigh_way(
     carry(u, s.there, key.len == ELEMENT, covered(d, key.hi), true)
 }
 
-// The same, of a deed.
+// The same from the root on, of an operation that does o; the search for the way's first key stops at `top`.
 pub fn weigh(
     heads: &[u64],
     keys: &[u64],
     marks: &[u64],
     values: &[u64],
     rows: usize,
-    from: Position,
-    n: u64,
-    parent_known: bool,
-    d: Counters,
-    deed: Deed,
+    top: Position,
+    o: Act,
     way: &[u64],
 ) -> Weight
     ensures { λ x. ⌜ Weighed (now (heads .entry)) (now (keys .entry)) (now (marks .entry)) (now (values .entry))
-        rows from n «parent_known» (d .at) deed (now (way .entry)) x ⌝ }
+        rows top o (now (way .entry)) x ⌝ }
 {
+    let deps = o.deps;
+    let deed = o.deed;
+    let number = deed_number(deed);
     weigh_way(
         heads,
         keys,
         marks,
         values,
         rows,
-        from,
-        n,
-        parent_known,
-        d,
-        deed_number(deed),
+        top,
+        1,
+        true,
+        deps,
+        number,
         way,
     )
 }

@@ -37,7 +37,7 @@ here-stores T c s D S = record { rows = S .rows; counters = refl; sound = S .sou
 
 -- 2, 3, 4 and whether it is ready, test by test.
 
-module _ (seen : Counters) (op : Operation) (b₂ : Bool) (two : Says notAbove (op .id) (op .deps .at) b₂) where
+module _ (seen : Counters) (op : Operation) (b₂ : Bool) (two : Says notAbove (op .act .id) (op .act .deps .at) b₂) where
   above : (o : M.Operation) (y : Bool) → Means op o → b₂ ≡ y → notAbove o ≡ y
   above o y e q = sym (two o (sym (e .id)) (sym (e .deps))) ∙ q
 
@@ -45,7 +45,7 @@ module _ (seen : Counters) (op : Operation) (b₂ : Bool) (two : Says notAbove (
   unfolding byCounters
   forestalls-two t D o s e = rw (above o true e t)
 
-  module _ (n₂ : b₂ ≡ false) (b₃ : Bool) (three : (o : M.Operation) → o .id ≡ op .id → b₃ ≡ repeated (seen .at) o) where
+  module _ (n₂ : b₂ ≡ false) (b₃ : Bool) (three : (o : M.Operation) → o .id ≡ op .act .id → b₃ ≡ repeated (seen .at) o) where
     again : (D : Document) (o : M.Operation) (y : Bool) → seen .at ≡ D .seen → Means op o → b₃ ≡ y → repeated (D .seen) o ≡ y
     again D o y s e q = ap (λ s. repeated s o) (sym s) ∙ (sym (three o (sym (e .id))) ∙ q)
 
@@ -53,7 +53,7 @@ module _ (seen : Counters) (op : Operation) (b₂ : Bool) (two : Says notAbove (
     unfolding byCounters
     forestalls-three t D o s e = rw (above o false e n₂, again D o true s e t)
 
-    module _ (n₃ : b₃ ≡ false) (b₄ : Bool) (four′ : Says (ownDepsBehind (seen .at)) (op .id) (op .deps .at) b₄) where
+    module _ (n₃ : b₃ ≡ false) (b₄ : Bool) (four′ : Says (ownDepsBehind (seen .at)) (op .act .id) (op .act .deps .at) b₄) where
       across : (D : Document) (o : M.Operation) (y : Bool) → seen .at ≡ D .seen → Means op o → b₄ ≡ y → ownDepsBehind (D .seen) o ≡ y
       across D o y s e q = ap (λ s. ownDepsBehind s o) (sym s) ∙ (sym (four′ o (sym (e .id)) (sym (e .deps))) ∙ q)
 
@@ -61,7 +61,7 @@ module _ (seen : Counters) (op : Operation) (b₂ : Bool) (two : Says notAbove (
       unfolding byCounters
       forestalls-four t D o s e = rw (above o false e n₂, again D o false s e n₃, across D o true s e t)
 
-      module _ (n₄ : b₄ ≡ false) (b₅ : Bool) (five : b₅ ≡ ready (seen .at) (op .id) (op .deps .at)) where
+      module _ (n₄ : b₄ ≡ false) (b₅ : Bool) (five : b₅ ≡ ready (seen .at) (op .act .id) (op .act .deps .at)) where
         in-time : (D : Document) (o : M.Operation) (y : Bool) → seen .at ≡ D .seen → Means op o → b₅ ≡ y → readyIn D o ≡ y
         in-time D o y s e q = rw (← s, ← e .id, ← e .deps) (sym five ∙ q)
 

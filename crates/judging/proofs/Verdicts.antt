@@ -20,7 +20,6 @@ use Rattle.rows.specs.Locate.{elementsFoundRows, astray-rows}
 use Rattle.rows.specs.Counting.{change}
 use Rattle.rows.specs.Within.{underChange, change-under, astray-under}
 use Rattle.message.specs.Means.{wayWords, deedOf, pad, Means}
-use Rattle.message.specs.declared.Deed.{Deed}
 use Rattle.message.specs.declared.Operation.{Operation}
 use Rattle.tables.specs.Words.{Tables}
 use Rattle.tables.specs.Holding.{Holds, four}
@@ -29,7 +28,7 @@ use Rattle.tables.specs.declared.Position.{Position}
 use Rattle.forecast.specs.Weighs.{Weighs, Weighed}
 use Rattle.forecast.specs.declared.Weight.{Weight}
 use Rattle.keeping.specs.Storing.{Stores}
-use Rattle.judging.specs.Judging.{Small, hasRoom, goesDown, readyVerdict, topPosition, Newer, Parts, JudgesWay, JudgesReady}
+use Rattle.judging.specs.Judging.{Small, hasRoom, goesDown, readyVerdict, topPosition, Newer, JudgesReady}
 use Rattle.judging.specs.declared.ReadyJudgement.{ReadyJudgement}
 use Rattle.judging.specs.declared.ReadyJudgement.the-variants as Y
 use Rattle.judging.proofs.Words.{take-pad, words-count, down-pad}
@@ -46,40 +45,43 @@ pad-long zero w = refl
 pad-long (suc n) [] = omega (arith, pad-long n [])
 pad-long (suc n) (x ∷ w) = omega (arith, pad-long n w)
 
-module _ (i : ℕ) (d : List ℕ) (deed : Deed) (ks : List ℕ) (n : ℕ) (o : M.Operation) (e : Parts i d deed ks n o) (v : ValidOperation o) where
-  pub steps-whole : (n ≡ steps (whole o)) × (steps (whole o) ≤ 8)
+-- 9, of an operation by the words of its last key
+abbrev goesDownAt : Operation → ℕ → ℕ → Bool
+goesDownAt op hi len = goesDown (op .act .deed) (op .act .id) hi len
+
+module _ (op : Operation) (o : M.Operation) (e : Means op o) (v : ValidOperation o) where
+  pub steps-whole : (op .way .n ≡ steps (whole o)) × (steps (whole o) ≤ 8)
   unfolding steps
-  steps-whole = (e .count, omega (arith, v .edit .reach))
+  steps-whole = (e .edit .count, omega (arith, v .edit .reach))
 
-  pub words-whole : ks ≡ pad 24 (wayWords (whole o))
+  pub words-whole : op .way .keys ≡ pad 24 (wayWords (whole o))
   unfolding wayWords
-  words-whole = e .keys
+  words-whole = e .edit .keys
 
-  pub deed-whole : deed ≡ deedOf (whole o)
+  pub deed-whole : op .act .deed ≡ deedOf (whole o)
   unfolding deedOf
-  deed-whole = e .deed-is
+  deed-whole = e .edit .deed
 
   -- the words that a way has, of the 24
-  pub way-part : take (3 * n) ks ≡ wayWords (whole o)
+  pub way-part : take (3 * op .way .n) (op .way .keys) ≡ wayWords (whole o)
   way-part =
       let s = steps-whole in
       let c = words-count (whole o) in
-      let l : 3 * n ≡ length (wayWords (whole o)) = omega (arith, s .0, c) in
+      let l : 3 * op .way .n ≡ length (wayWords (whole o)) = omega (arith, s .0, c) in
       ap₂ (λ n ks. take n ks) l words-whole ∙ take-pad 24 (wayWords (whole o)) (omega (arith, s .1, c))
 
-  pub cut-short : length ks < 3 * n → ⊥
+  pub cut-short : length (op .way .keys) < 3 * op .way .n → ⊥
   cut-short l = omega (arith, l, ap length words-whole, pad-long 24 (wayWords (whole o)), steps-whole .0, steps-whole .1)
 
-  pub down-is : goesDown deed i (getD ks (3 * n - 3) 0) (getD ks (3 * n - 1) 0) ≡ downward o
+  pub down-is : goesDownAt op (getD (op .way .keys) (3 * op .way .n - 3) 0) (getD (op .way .keys) (3 * op .way .n - 1) 0) ≡ downward o
   unfolding downward upward
   down-is =
       let s = steps-whole in
       rw (deed-whole, e .id, words-whole, s .0) (down-pad (o .id) (whole o) tt (s .1))
 
-module _ (h k m v : List ℕ) (c : Counts) (i : ℕ) (d : List ℕ) (deed : Deed) (ks : List ℕ) (n : ℕ) (way : List ℕ)
-    (part : way ≡ take (3 * n) ks)
-    (from : Position) (x : Weight) (W : Weighed h k m v (c .rows) from 1 true d deed way x) where
-  module _ (D : Document) (o : M.Operation) (S : Stores (four h k m v) c (D .seen) D) (e : Parts i d deed ks n o)
+module _ (h k m v : List ℕ) (c : Counts) (op : Operation) (way : List ℕ) (part : way ≡ take (3 * op .way .n) (op .way .keys))
+    (from : Position) (x : Weight) (W : Weighed h k m v (c .rows) from (op .act) way x) where
+  module _ (D : Document) (o : M.Operation) (S : Stores (four h k m v) c (D .seen) D) (e : Means op o)
       (val : ValidOperation o) (f : from ≡ topPosition o D) where
     weighed : Weighs (not (astray D o)) (change o (rowsOf D)) x
     unfolding steps
@@ -87,8 +89,9 @@ module _ (h k m v : List ℕ) (c : Counts) (i : ℕ) (d : List ℕ) (deed : Deed
         let p = over 1 (keyBelow (o .top)) in
         let R = rest p (rowsOf D) in
         let H = subst (Holds (four h k m v) c) (sym (passed-rest p (rowsOf D))) (S .rows) in
-        let w = W .is c (passed p (rowsOf D)) R (whole o) H refl (λ t. f) (part ∙ way-part i d deed ks n o e val)
-        (deed-whole i d deed ks n o e val) (val .edit .first, val .edit .rest) (omega (arith, val .edit .reach)) in
+        let d = op .act .deps .at in
+        let w = W .is c (passed p (rowsOf D)) R (whole o) H refl f (part ∙ way-part op o e val) (deed-whole op o e val)
+        (val .edit .first, val .edit .rest) (omega (arith, val .edit .reach)) in
         let a : elementsFoundRows d 1 (whole o) R ≡ not (astray D o) =
         found-top 1 (o .top) (o .way) (rowsOf D) d ∙ (ap (λ d. elementsFoundRows d 1 (whole o) (rowsOf D)) (e .deps)
         ∙ (twice (elementsFoundRows (o .deps) 1 (whole o) (rowsOf D)) ∙ ap not (sym (astray-under o (rowsOf D)) ∙ astray-rows o D))) in
@@ -102,7 +105,7 @@ module _ (h k m v : List ℕ) (c : Counts) (i : ℕ) (d : List ℕ) (deed : Deed
         twice false = refl
 
     long : length way ≤ 24
-    long = omega (arith, ap length (part ∙ way-part i d deed ks n o e val), words-count (whole o), steps-whole i d deed ks n o e val .1)
+    long = omega (arith, ap length (part ∙ way-part op o e val), words-count (whole o), steps-whole op o e val .1)
 
     small : Newer D o → Small c x
     small y = weight-small (four h k m v) c D o S y x _ weighed (omega (arith, W .few-places, long)) (omega (arith, W .few-marks, long))
@@ -117,50 +120,40 @@ module _ (h k m v : List ℕ) (c : Counts) (i : ℕ) (d : List ℕ) (deed : Deed
         back true b e = ap not e
         back false b e = ap not e
 
-  pub judge-eight : x .found ≡ false → JudgesWay (four h k m v) c from i d deed ks n Y.NoElement
+  pub judge-eight : x .found ≡ false → JudgesReady (four h k m v) c from op Y.NoElement
   unfolding readyVerdict
   judge-eight t D o S e val y f = rw (stray D o S e val f false t)
 
-  pub judge-large : (Small c x → ⊥) → (r : ReadyJudgement) → JudgesWay (four h k m v) c from i d deed ks n r
+  pub judge-large : (Small c x → ⊥) → (r : ReadyJudgement) → JudgesReady (four h k m v) c from op r
   judge-large t r D o S e val y f = absurd (t (small D o S e val f y))
 
-  module _ (hi len : ℕ) (a : hi ≡ getD ks (3 * n - 3) 0) (b : len ≡ getD ks (3 * n - 1) 0)
+  module _ (hi len : ℕ) (a : hi ≡ getD (op .way .keys) (3 * op .way .n - 3) 0) (b : len ≡ getD (op .way .keys) (3 * op .way .n - 1) 0)
       (t : x .found ≡ true) where
-    down : (D : Document) (o : M.Operation) (e : Parts i d deed ks n o) (val : ValidOperation o) (y : Bool)
-        → goesDown deed i hi len ≡ y
-        → downward o ≡ y
-    down D o e val y g = sym (down-is i d deed ks n o e val) ∙ (rw (← a, ← b) g)
+    down : (o : M.Operation) → Means op o → ValidOperation o → (y : Bool) → goesDownAt op hi len ≡ y → downward o ≡ y
+    down o e val y g = sym (down-is op o e val) ∙ (rw (← a, ← b) g)
 
-    pub judge-nine : goesDown deed i hi len ≡ true → JudgesWay (four h k m v) c from i d deed ks n Y.NotSmaller
+    pub judge-nine : goesDownAt op hi len ≡ true → JudgesReady (four h k m v) c from op Y.NotSmaller
     unfolding readyVerdict
-    judge-nine g D o S e val y f = rw (stray D o S e val f true t, down D o e val true g)
+    judge-nine g D o S e val y f = rw (stray D o S e val f true t, down o e val true g)
 
-    pub judge-ten : goesDown deed i hi len ≡ false → hasRoom c x ≡ false → JudgesWay (four h k m v) c from i d deed ks n Y.NoRoom
+    pub judge-ten : goesDownAt op hi len ≡ false → hasRoom c x ≡ false → JudgesReady (four h k m v) c from op Y.NoRoom
     unfolding readyVerdict
     judge-ten g r D o S e val y f =
-        rw (stray D o S e val f true t, down D o e val false g, sym (room D o S e val f y) ∙ r)
+        rw (stray D o S e val f true t, down o e val false g, sym (room D o S e val f y) ∙ r)
 
-    pub judge-taken : goesDown deed i hi len ≡ false → hasRoom c x ≡ true → JudgesWay (four h k m v) c from i d deed ks n Y.Taken
+    pub judge-taken : goesDownAt op hi len ≡ false → hasRoom c x ≡ true → JudgesReady (four h k m v) c from op Y.Taken
     unfolding readyVerdict
     judge-taken g r D o S e val y f =
-        rw (stray D o S e val f true t, down D o e val false g, sym (room D o S e val f y) ∙ r)
+        rw (stray D o S e val f true t, down o e val false g, sym (room D o S e val f y) ∙ r)
 
 -- a way has one to eight keys
-module _ (T : Tables) (c : Counts) (from : Position) (i : ℕ) (d : List ℕ) (deed : Deed) (ks : List ℕ) (n : ℕ) (r : ReadyJudgement) where
-  pub judge-long : 8 < n → JudgesWay T c from i d deed ks n r
+module _ (T : Tables) (c : Counts) (from : Position) (op : Operation) (r : ReadyJudgement) where
+  pub judge-long : 8 < op .way .n → JudgesReady T c from op r
   judge-long l D o S e val y f =
-      absurd (omega (arith, l, steps-whole i d deed ks n o e val .0, steps-whole i d deed ks n o e val .1))
+      absurd (omega (arith, l, steps-whole op o e val .0, steps-whole op o e val .1))
 
-  pub judge-none : n ≡ 0 → JudgesWay T c from i d deed ks n r
-  judge-none l D o S e val y f = absurd (omega (arith, l, e .count))
+  pub judge-none : op .way .n ≡ 0 → JudgesReady T c from op r
+  judge-none l D o S e val y f = absurd (omega (arith, l, e .edit .count))
 
-  pub judge-cut : length ks < 3 * n → JudgesWay T c from i d deed ks n r
-  judge-cut l D o S e val y f = absurd (cut-short i d deed ks n o e val l)
-
--- an operation's parts
-pub parts-of : (op : Operation) (o : M.Operation) → Means op o → Parts (op .id) (op .deps .at) (op .deed) (op .way .keys) (op .way .n) o
-parts-of op o e = record { id = e .id; deps = e .deps; deed-is = e .edit .deed; keys = e .edit .keys; count = e .edit .count }
-
-pub judge-parts : (T : Tables) (c : Counts) (s : Position) (op : Operation) (r : ReadyJudgement)
-    → JudgesWay T c s (op .id) (op .deps .at) (op .deed) (op .way .keys) (op .way .n) r → JudgesReady T c s op r
-judge-parts T c s op r J D o S e val y f = J D o S (parts-of op o e) val y f
+  pub judge-cut : length (op .way .keys) < 3 * op .way .n → JudgesReady T c from op r
+  judge-cut l D o S e val y f = absurd (cut-short op o e val l)

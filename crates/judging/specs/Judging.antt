@@ -1,7 +1,7 @@
 -- What judging promises of memory that holds a document. An operation is judged on the document as it stands: 2, 3, 4; if it isn't ready it
 -- comes too early; else 8, 9, 10; else it is taken.
 -- Assumes nothing: these are definitions.
-use Prim.Native.Nat.{ℕ, suc, _+_, _≤_, _<_}
+use Prim.Native.Nat.{ℕ, _+_, _≤_, _<_}
 use mathlib.Core.Path.{_≡_}
 use mathlib.Core.Bool.{Bool, true, false, cond, _&&_}
 use mathlib.Core.List.{List, _++_}
@@ -13,13 +13,13 @@ use Rattle.meaning.specs.Limits.{fits}
 use Rattle.meaning.specs.Judge.{notAbove, repeated, ownDepsBehind, astray, downward}
 use Rattle.meaning.specs.Receive.{readyIn}
 use Rattle.meaning.specs.Valid.{ValidOperation}
-use Rattle.meaning.specs.Ways.{steps}
 use Rattle.meaning.specs.Ways as M
 use Rattle.meaning.specs.Sheet.{rowsOf}
 use Rattle.meaning.specs.declared.Counters.{Counters}
 use Rattle.rows.specs.Blocks.{passed, keyBelow, over}
 use Rattle.readers.specs.Words.{keyWords}
-use Rattle.message.specs.Means.{wayWords, deedOf, pad, Means}
+use Rattle.message.specs.Means.{wayWords, pad, Means}
+use Rattle.message.specs.declared.Act.{Act}
 use Rattle.message.specs.declared.Deed.{Deed}
 use Rattle.message.specs.declared.Operation.{Operation}
 use Rattle.tables.specs.Words.{Tables}
@@ -100,13 +100,9 @@ verdict o D = verdictBy (byCounters o D) (readyVerdict o D)
 abbrev pub Newer : Document → M.Operation → Type 0
 Newer D o = entry (D .seen) (entryOf (o .id)) < counterOf (o .id)
 
--- the parts of an operation mean o
-pub record Parts (i : ℕ) (d : List ℕ) (deed : Deed) (ks : List ℕ) (n : ℕ) (o : M.Operation) : Type 0 where
-  pub id : i ≡ o .id
-  pub deps : d ≡ o .deps
-  pub deed-is : deed ≡ deedOf (o .way)
-  pub keys : ks ≡ pad 24 (keyWords (o .top) ++ wayWords (o .way))
-  pub count : n ≡ suc (steps (o .way))
+-- the operation that does a at the end of the way with these words, of n keys
+abbrev pub along : Act → List ℕ → ℕ → Operation
+along a ks n = record { act = a; way = record { keys = ks; n = n } }
 
 -- where the search for the way's first key stops, among the rows of the document
 abbrev pub topPosition : M.Operation → Document → Position
@@ -125,12 +121,6 @@ abbrev pub JudgesCounters : Counters → Operation → Readiness → Type 0
 JudgesCounters seen op r = (D : Document) (o : M.Operation) → seen .at ≡ D .seen → Means op o → r ≡ byCounters o D
 
 -- with the stop s, from which the way is looked for
-
-abbrev pub JudgesWay : Tables → Counts → Position → ℕ → List ℕ → Deed → List ℕ → ℕ → ReadyJudgement → Type 0
-JudgesWay T c s i d deed ks n r =
-    (D : Document) (o : M.Operation) → Stores T c (D .seen) D → Parts i d deed ks n o → ValidOperation o → Newer D o → s ≡ topPosition o D
-    → r ≡ readyVerdict o D
-
 abbrev pub JudgesReady : Tables → Counts → Position → Operation → ReadyJudgement → Type 0
 JudgesReady T c s op r =
     (D : Document) (o : M.Operation) → Stores T c (D .seen) D → Means op o → ValidOperation o → Newer D o → s ≡ topPosition o D

@@ -6,14 +6,14 @@ use limits::goes_down;
 use limits::has_room;
 use limits::is_small;
 use meaning::Counters;
-use message::Deed;
+use message::Act;
 use message::Operation;
 use readers::Key;
 use tables::Counts;
 use tables::Position;
 ghost use mathlib.Core.Path.{_≡_};
 ghost use Rattle.tables.specs.Holding.{four};
-ghost use Rattle.judging.specs.Judging.{judgementOf, isTaken, TopsIn, JudgesCounters, JudgesWay, JudgesReady, Judges};
+ghost use Rattle.judging.specs.Judging.{judgementOf, isTaken, along, TopsIn, JudgesCounters, JudgesReady, Judges};
 
 // The refusals of an operation, by name: 2, 3, 4, 8, 9, 10.
 pub enum Refusal {
@@ -47,7 +47,7 @@ pub enum Judgement {
     Refused(Refusal),
 }
 
-// 8, 9, 10, of an operation that is ready; `words` are those of its way, of n keys.
+// 8, 9, 10, of an operation that is ready and does o; `words` are those of its way, of n keys.
 fn judge_way(
     heads: &[u64],
     keys: &[u64],
@@ -55,14 +55,12 @@ fn judge_way(
     values: &[u64],
     c: Counts,
     top: Position,
-    id: u64,
-    deps: Counters,
-    deed: Deed,
+    o: Act,
     words: &[u64],
     n: usize,
 ) -> ReadyJudgement
-    ensures { λ r. ⌜ JudgesWay (four (now (heads .entry)) (now (keys .entry)) (now (marks .entry)) (now (values .entry))) c top id
-        (deps .at) deed (now (words .entry)) n r ⌝ }
+    ensures { λ r. ⌜ JudgesReady (four (now (heads .entry)) (now (keys .entry)) (now (marks .entry)) (now (values .entry))) c top
+        (along o (now (words .entry)) n) r ⌝ }
 {
     if n > 8 {
         return ReadyJudgement::NoElement;
@@ -74,23 +72,12 @@ fn judge_way(
     if end > words.len() {
         return ReadyJudgement::NoElement;
     }
-    let w = forecast::weigh(
-        heads,
-        keys,
-        marks,
-        values,
-        c.rows,
-        top,
-        1,
-        true,
-        deps,
-        deed,
-        &words[..end],
-    );
+    let w = forecast::weigh(heads, keys, marks, values, c.rows, top, o, &words[..end]);
     if !w.found {
         return ReadyJudgement::NoElement;
     }
-    if goes_down(deed, id, words[end - 3], words[end - 1]) {
+    let deed = o.deed;
+    if goes_down(deed, o.id, words[end - 3], words[end - 1]) {
         return ReadyJudgement::NotSmaller;
     }
     if !is_small(c, w) {
@@ -114,31 +101,19 @@ pub fn judge_ready(
 ) -> ReadyJudgement
     ensures { λ r. ⌜ JudgesReady (four (now (heads .entry)) (now (keys .entry)) (now (marks .entry)) (now (values .entry))) c top op r ⌝ }
 {
+    let act = op.act;
     let way = op.way;
     let words = way.keys;
-    let deed = op.deed;
-    let deps = op.deps;
-    judge_way(
-        heads,
-        keys,
-        marks,
-        values,
-        c,
-        top,
-        op.id,
-        deps,
-        deed,
-        &words,
-        way.n,
-    )
+    judge_way(heads, keys, marks, values, c, top, act, &words, way.n)
 }
 
 // 2, 3, 4, and whether it comes too early.
 pub fn judge_counters(seen: Counters, op: Operation) -> Readiness
     ensures { λ r. ⌜ JudgesCounters seen op r ⌝ }
 {
-    let id = op.id;
-    let deps = op.deps;
+    let act = op.act;
+    let id = act.id;
+    let deps = act.deps;
     if counters::not_above(id, deps) {
         return Readiness::Refused(Refusal::Counter);
     }

@@ -18,8 +18,8 @@ use Rattle.readers.specs.Reads.{assigned, MoreAssigned, either}
 use Rattle.readers.specs.Given.{givenOf, GivenTook, ReadsAssigned}
 use Rattle.readers.specs.declared.Given.{Given}
 use Rattle.readers.specs.declared.GivenRead.{GivenRead}
-use Rattle.message.specs.Steps.{Act, assigns, inserts, deletes, actText, ValidAct, acts}
-use Rattle.message.specs.Reads.{until, valueLines, ReadsValueLine, actDeed, actWords, ReadsDeed}
+use Rattle.message.specs.Steps.{Action, assigns, inserts, deletes, actionText, ValidAction, actions}
+use Rattle.message.specs.Reads.{until, valueLines, ReadsValueLine, actionDeed, actionWords, ReadsDeed}
 use Rattle.message.specs.declared.Deed.{Deed}
 use Rattle.message.specs.declared.Deed.the-variants as D
 
@@ -91,36 +91,36 @@ deleteText = ascii "do=delete\n"
 abbrev fourth : List ℕ → ℕ
 fourth t = getD t 3 0
 
-an-assignment : Case assignText valueLines acts
-unfolding actText
+an-assignment : Case assignText valueLines actions
+unfolding actionText
 an-assignment = record { make = assigns; text = λ v. refl; valid = λ v o. o; more = λ v t m. tt; kind = kind }
   where
-    kind : (x : Act) → Kind assignText valueLines acts assigns x
+    kind : (x : Action) → Kind assignText valueLines actions assigns x
     kind (assigns v) = this v refl (λ o. o) (λ t m. tt)
     kind (inserts v) = other (λ t u e. omega (arith, ap fourth e))
     kind deletes = other (λ t u e. omega (arith, ap fourth e))
 
-an-insertion : Case insertText valueLines acts
-unfolding actText
+an-insertion : Case insertText valueLines actions
+unfolding actionText
 an-insertion = record { make = inserts; text = λ v. refl; valid = λ v o. o; more = λ v t m. tt; kind = kind }
   where
-    kind : (x : Act) → Kind insertText valueLines acts inserts x
+    kind : (x : Action) → Kind insertText valueLines actions inserts x
     kind (assigns v) = other (λ t u e. omega (arith, ap fourth e))
     kind (inserts v) = this v refl (λ o. o) (λ t m. tt)
     kind deletes = other (λ t u e. omega (arith, ap fourth e))
 
-a-deletion : Case deleteText (fixed []) acts
-unfolding actText
+a-deletion : Case deleteText (fixed []) actions
+unfolding actionText
 a-deletion = record { make = λ u. deletes; text = λ u. refl; valid = λ u o. tt; more = λ u t m. tt; kind = kind }
   where
-    kind : (x : Act) → Kind deleteText (fixed []) acts (λ u. deletes) x
+    kind : (x : Action) → Kind deleteText (fixed []) actions (λ u. deletes) x
     kind (assigns v) = other (λ t u e. omega (arith, ap fourth e))
     kind (inserts v) = other (λ t u e. omega (arith, ap fourth e))
     kind deletes = this tt refl (λ o. tt) (λ t m. tt)
 
 -- a deed with a value, whose line was read
-valued : (p : List ℕ) (c : Case p valueLines acts) (deed : Given → Deed) → ((v : Assigned) → actDeed (c .make v) ≡ deed (givenOf v))
-    → ((v : Assigned) → actWords (c .make v) ≡ valueWords v) → (s : List ℕ) (a n : ℕ) → Took (fixed p) s a tt n → (r : GivenRead)
+valued : (p : List ℕ) (c : Case p valueLines actions) (deed : Given → Deed) → ((v : Assigned) → actionDeed (c .make v) ≡ deed (givenOf v))
+    → ((v : Assigned) → actionWords (c .make v) ≡ valueWords v) → (s : List ℕ) (a n : ℕ) → Took (fixed p) s a tt n → (r : GivenRead)
     → ReadsValueLine s n r → ReadsDeed s a (record { ok = r .ok; deed = deed (r .given); words = r .words; next = r .next })
 valued p c deed same word s a n h r = go (r .ok)
   where
@@ -128,41 +128,41 @@ valued p c deed same word s a n h r = go (r .ok)
         → ReadsDeed s a (record { ok = b; deed = deed (r .given); words = r .words; next = r .next })
     go true k =
         record {
-          act = c .make (k .value);
-          took = case-took p valueLines acts c s a n h (k .value) (r .next) (k .took);
+          action = c .make (k .value);
+          took = case-took p valueLines actions c s a n h (k .value) (r .next) (k .took);
           deed = ap deed (k .given) ∙ sym (same (k .value));
           words = k .words ∙ sym (word (k .value));
         }
-    go false k = case-none p valueLines acts c s a n h k
+    go false k = case-none p valueLines actions c s a n h k
 
 module _ (s : List ℕ) (a n : ℕ) where
   pub an-assign : Took (fixed assignText) s a tt n → (r : GivenRead) → ReadsValueLine s n r
       → ReadsDeed s a (record { ok = r .ok; deed = D.Assign (r .given); words = r .words; next = r .next })
-  unfolding an-assignment actDeed actWords
+  unfolding an-assignment actionDeed actionWords
   an-assign = valued assignText an-assignment D.Assign (λ v. refl) (λ v. refl) s a n
 
   pub an-insert : Took (fixed insertText) s a tt n → (r : GivenRead) → ReadsValueLine s n r
       → ReadsDeed s a (record { ok = r .ok; deed = D.Insert (r .given); words = r .words; next = r .next })
-  unfolding an-insertion actDeed actWords
+  unfolding an-insertion actionDeed actionWords
   an-insert = valued insertText an-insertion D.Insert (λ v. refl) (λ v. refl) s a n
 
   pub a-delete : Took (fixed deleteText) s a tt n → ReadsDeed s a
       (record { ok = true; deed = D.Delete; words = 0 ∷ 0 ∷ 0 ∷ 0 ∷ []; next = n })
-  unfolding a-deletion actDeed actWords wordsOf pack
+  unfolding a-deletion actionDeed actionWords wordsOf pack
   a-delete h =
       record {
-        act = deletes;
-        took = case-took deleteText (fixed []) acts a-deletion s a n h tt n (stands [] s n n refl (λ i. i));
+        action = deletes;
+        took = case-took deleteText (fixed []) actions a-deletion s a n h tt n (stands [] s n n refl (λ i. i));
         deed = refl;
         words = refl;
       }
 
 pub no-deed : (s : List ℕ) (a : ℕ) → Never (fixed assignText) s a → Never (fixed insertText) s a → Never (fixed deleteText) s a
-    → Never acts s a
-unfolding actText
+    → Never actions s a
+unfolding actionText
 no-deed s a x y z = record { not = none }
   where
-    none : (d : Act) (t : List ℕ) → ValidAct d → Unit {0} → drop a s ≡ actText d ++ t → ⊥
+    none : (d : Action) (t : List ℕ) → ValidAction d → Unit {0} → drop a s ≡ actionText d ++ t → ⊥
     none (assigns v) t o m e = x .not tt ((assignedText v ++ ascii "\n") ++ t) tt tt e
     none (inserts v) t o m e = y .not tt ((assignedText v ++ ascii "\n") ++ t) tt tt e
     none deletes t o m e = z .not tt t tt tt e

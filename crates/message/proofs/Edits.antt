@@ -20,9 +20,9 @@ use Rattle.readers.specs.Words.{keyWords}
 use Rattle.readers.specs.Reads.{either}
 use Rattle.message.specs.Means.{elementWords, prevWords, wayWords, deedOf, deedWords, pad}
 use Rattle.message.specs.Steps.{Step, key, element, caret, stepText, allText, stepWords, allWords, Open, Good, InList}
-use Rattle.message.specs.Steps.{Act, assigns, inserts, deletes, actText, ValidAct, acts}
+use Rattle.message.specs.Steps.{Action, assigns, inserts, deletes, actionText, ValidAction, actions}
 use Rattle.message.specs.Reads.{Tail, atKey, atElement, atCaret, ways, WayTook}
-use Rattle.message.specs.Reads.{ReadsWay, actDeed, actWords, DeedTook, ReadsDeed, suits}
+use Rattle.message.specs.Reads.{ReadsWay, actionDeed, actionWords, DeedTook, ReadsDeed, suits}
 use Rattle.message.specs.Promises.{noEdit, ValidLines, ReadsEdit}
 use Rattle.message.specs.declared.WayRead.{WayRead}
 use Rattle.message.specs.declared.DeedRead.{DeedRead}
@@ -41,12 +41,12 @@ stepsOf (insert p a) = prevStep p ∷ []
 stepsOf (intoMap k w) = key k ∷ stepsOf w
 stepsOf (intoList e w) = element e ∷ stepsOf w
 
-actOf : Way → Act
-actOf (assign a) = assigns a
-actOf delete = deletes
-actOf (insert p a) = inserts a
-actOf (intoMap k w) = actOf w
-actOf (intoList e w) = actOf w
+actionOf : Way → Action
+actionOf (assign a) = assigns a
+actionOf delete = deletes
+actionOf (insert p a) = inserts a
+actionOf (intoMap k w) = actionOf w
+actionOf (intoList e w) = actionOf w
 
 steps-text : (w : Way) → stepsText w ≡ allText (stepsOf w)
 unfolding stepsText stepsOf allText stepText prevText prevStep
@@ -57,13 +57,13 @@ steps-text (insert (after e) a) = ap (λ t. byte "[" ∷ t) (sym (append-nil (id
 steps-text (intoMap k w) = ap (λ t. byte "{" ∷ (hex k ++ t)) (steps-text w)
 steps-text (intoList e w) = ap (λ t. byte "[" ∷ (idText e ++ t)) (steps-text w)
 
-act-text : (w : Way) → doText w ≡ actText (actOf w)
-unfolding doText actOf actText
-act-text (assign a) = refl
-act-text delete = refl
-act-text (insert p a) = refl
-act-text (intoMap k w) = act-text w
-act-text (intoList e w) = act-text w
+action-text : (w : Way) → doText w ≡ actionText (actionOf w)
+unfolding doText actionOf actionText
+action-text (assign a) = refl
+action-text delete = refl
+action-text (insert p a) = refl
+action-text (intoMap k w) = action-text w
+action-text (intoList e w) = action-text w
 
 steps-count : (w : Way) → length (stepsOf w) ≡ steps w
 unfolding stepsOf steps
@@ -82,21 +82,21 @@ steps-words (insert (after e) a) = refl
 steps-words (intoMap k w) = ap (λ t. keyWords k ++ t) (steps-words w)
 steps-words (intoList e w) = ap (λ t. elementWords e ++ t) (steps-words w)
 
-act-deed : (w : Way) → deedOf w ≡ actDeed (actOf w)
-unfolding deedOf actOf actDeed
-act-deed (assign a) = refl
-act-deed delete = refl
-act-deed (insert p a) = refl
-act-deed (intoMap k w) = act-deed w
-act-deed (intoList e w) = act-deed w
+action-deed : (w : Way) → deedOf w ≡ actionDeed (actionOf w)
+unfolding deedOf actionOf actionDeed
+action-deed (assign a) = refl
+action-deed delete = refl
+action-deed (insert p a) = refl
+action-deed (intoMap k w) = action-deed w
+action-deed (intoList e w) = action-deed w
 
-act-words : (w : Way) → deedWords w ≡ actWords (actOf w)
-unfolding deedWords actOf actWords
-act-words (assign a) = refl
-act-words delete = refl
-act-words (insert p a) = refl
-act-words (intoMap k w) = act-words w
-act-words (intoList e w) = act-words w
+action-words : (w : Way) → deedWords w ≡ actionWords (actionOf w)
+unfolding deedWords actionOf actionWords
+action-words (assign a) = refl
+action-words delete = refl
+action-words (insert p a) = refl
+action-words (intoMap k w) = action-words w
+action-words (intoList e w) = action-words w
 
 steps-good : (w : Way) → ValidWay w → Good (stepsOf w)
 unfolding stepsOf prevStep
@@ -107,16 +107,16 @@ steps-good (insert (after e) a) v = (v .0, tt)
 steps-good (intoMap k w) v = (v .0, steps-good w (v .1))
 steps-good (intoList e w) v = (v .0, steps-good w (v .1))
 
-act-valid : (w : Way) → ValidWay w → ValidAct (actOf w)
-unfolding actOf
-act-valid (assign a) v = v
-act-valid delete v = tt
-act-valid (insert p a) v = v .1
-act-valid (intoMap k w) v = act-valid w (v .1)
-act-valid (intoList e w) v = act-valid w (v .1)
+action-valid : (w : Way) → ValidWay w → ValidAction (actionOf w)
+unfolding actionOf
+action-valid (assign a) v = v
+action-valid delete v = tt
+action-valid (insert p a) v = v .1
+action-valid (intoMap k w) v = action-valid w (v .1)
+action-valid (intoList e w) v = action-valid w (v .1)
 
 -- an insert ends in a list, anything else at a place
-abbrev Fits : List Step → Act → Type 0
+abbrev Fits : List Step → Action → Type 0
 Fits xs (assigns a) = Open xs
 Fits xs (inserts a) = InList xs
 Fits xs deletes = Open xs
@@ -125,24 +125,24 @@ further : (x : Step) (xs : List Step) → InList xs → InList (x ∷ xs)
 further x [] i = absurd i
 further x (y ∷ xs) i = i
 
-map-fits : (k : List ℕ) (xs : List Step) (d : Act) → ValidKey k → Fits xs d → Fits (key k ∷ xs) d
+map-fits : (k : List ℕ) (xs : List Step) (d : Action) → ValidKey k → Fits xs d → Fits (key k ∷ xs) d
 map-fits k xs (assigns a) v f = (v, f)
 map-fits k xs (inserts a) v f = further (key k) xs f
 map-fits k xs deletes v f = (v, f)
 
-list-fits : (e : ℕ) (xs : List Step) (d : Act) → ValidId e → Fits xs d → Fits (element e ∷ xs) d
+list-fits : (e : ℕ) (xs : List Step) (d : Action) → ValidId e → Fits xs d → Fits (element e ∷ xs) d
 list-fits e xs (assigns a) v f = (v, f)
 list-fits e xs (inserts a) v f = further (element e) xs f
 list-fits e xs deletes v f = (v, f)
 
-fits : (w : Way) → ValidWay w → Fits (stepsOf w) (actOf w)
-unfolding stepsOf actOf prevStep
+fits : (w : Way) → ValidWay w → Fits (stepsOf w) (actionOf w)
+unfolding stepsOf actionOf prevStep
 fits (assign a) v = tt
 fits delete v = tt
 fits (insert head a) v = tt
 fits (insert (after e) a) v = tt
-fits (intoMap k w) v = map-fits k (stepsOf w) (actOf w) (v .0) (fits w (v .1))
-fits (intoList e w) v = list-fits e (stepsOf w) (actOf w) (v .0) (fits w (v .1))
+fits (intoMap k w) v = map-fits k (stepsOf w) (actionOf w) (v .0) (fits w (v .1))
+fits (intoList e w) v = list-fits e (stepsOf w) (actionOf w) (v .0) (fits w (v .1))
 
 -- Put together.
 
@@ -166,23 +166,23 @@ along-steps (key k ∷ xs) w o = ap (λ l. key k ∷ l) (along-steps xs w (o .1)
 along-steps (element e ∷ xs) w o = ap (λ l. element e ∷ l) (along-steps xs w (o .1))
 along-steps (caret ∷ xs) w o = absurd o
 
-along-act : (xs : List Step) (w : Way) → actOf (along xs w) ≡ actOf w
-unfolding along actOf
-along-act [] w = refl
-along-act (key k ∷ xs) w = along-act xs w
-along-act (element e ∷ xs) w = along-act xs w
-along-act (caret ∷ xs) w = refl
+along-action : (xs : List Step) (w : Way) → actionOf (along xs w) ≡ actionOf w
+unfolding along actionOf
+along-action [] w = refl
+along-action (key k ∷ xs) w = along-action xs w
+along-action (element e ∷ xs) w = along-action xs w
+along-action (caret ∷ xs) w = refl
 
 -- a way with these steps and this deed
-record Made (xs : List Step) (d : Act) : Type 0 where
+record Made (xs : List Step) (d : Action) : Type 0 where
   way : Way
   valid : ValidWay way
   steps : stepsOf way ≡ xs
-  act : actOf way ≡ d
+  action : actionOf way ≡ d
 
-made-along : (xs : List Step) (w : Way) (zs : List Step) (d : Act) → Open xs → ValidWay w → xs ++ stepsOf w ≡ zs → actOf w ≡ d → Made zs d
+made-along : (xs : List Step) (w : Way) (zs : List Step) (d : Action) → Open xs → ValidWay w → xs ++ stepsOf w ≡ zs → actionOf w ≡ d → Made zs d
 made-along xs w zs d o v e f =
-    record { way = along xs w; valid = along-valid xs w o v; steps = along-steps xs w o ∙ e; act = along-act xs w ∙ f }
+    record { way = along xs w; valid = along-valid xs w o v; steps = along-steps xs w o ∙ e; action = along-action xs w ∙ f }
 
 open-front : (xs : List Step) (e : ℕ) → Open (xs ++ (element e ∷ [])) → Open xs × ValidId e
 open-front [] e o = (tt, o .0)
@@ -206,8 +206,8 @@ place-not last xs (atKey h o n) e p = omega (arith, eqb-true last 18 (not-false 
 place-not last xs (atElement h ys i q o) e p = omega (arith, eqb-true last 18 (not-false (eqb last 18) e))
 place-not last xs (atCaret h ys q o) e p = no-caret ys (subst Open q p)
 
-made : (last : ℕ) (xs : List Step) (d : Act) → Tail last xs → ValidAct d → suits last (actDeed d) ≡ true → Made xs d
-unfolding actDeed stepsOf actOf prevStep
+made : (last : ℕ) (xs : List Step) (d : Action) → Tail last xs → ValidAction d → suits last (actionDeed d) ≡ true → Made xs d
+unfolding actionDeed stepsOf actionOf prevStep
 made last xs (assigns a) t v e = made-along xs (assign a) xs (assigns a) (place-open last xs t e) v (append-nil xs) refl
 made last xs deletes t v e = made-along xs delete xs deletes (place-open last xs t e) tt (append-nil xs) refl
 made last xs (inserts a) (atKey h o n) v e = absurd (omega (arith, leb-true 17 last e))
@@ -216,8 +216,8 @@ made last xs (inserts a) (atElement h ys i q o) v e =
     made-along ys (insert (after i) a) xs (inserts a) (r .0) (r .1, v) (sym q) refl
 made last xs (inserts a) (atCaret h ys q o) v e = made-along ys (insert head a) xs (inserts a) o (tt, v) (sym q) refl
 
-unfit : (last : ℕ) (xs : List Step) (d : Act) → Tail last xs → suits last (actDeed d) ≡ false → Fits xs d → ⊥
-unfolding actDeed
+unfit : (last : ℕ) (xs : List Step) (d : Action) → Tail last xs → suits last (actionDeed d) ≡ false → Fits xs d → ⊥
+unfolding actionDeed
 unfit last xs (assigns a) t e f = place-not last xs t e f
 unfit last xs deletes t e f = place-not last xs t e f
 unfit last xs (inserts a) (atKey h o n) e f = n f
@@ -226,29 +226,29 @@ unfit last xs (inserts a) (atCaret h ys q o) e f = omega (arith, leb-false 17 la
 
 -- The lines.
 
-abbrev ends : Layout (Unit {0} × Act)
-ends = then (fixed (ascii "\n")) acts
+abbrev ends : Layout (Unit {0} × Action)
+ends = then (fixed (ascii "\n")) actions
 
-abbrev middle : Layout ((List ℕ × List Step) × (Unit {0} × Act))
+abbrev middle : Layout ((List ℕ × List Step) × (Unit {0} × Action))
 middle = then ways ends
 
-abbrev parts : Layout (Unit {0} × ((List ℕ × List Step) × (Unit {0} × Act)))
+abbrev parts : Layout (Unit {0} × ((List ℕ × List Step) × (Unit {0} × Action)))
 parts = then (fixed (ascii "at=")) middle
 
-abbrev apart : List ℕ → Way → Unit {0} × ((List ℕ × List Step) × (Unit {0} × Act))
-apart top w = (tt, ((top, stepsOf w), (tt, actOf w)))
+abbrev apart : List ℕ → Way → Unit {0} × ((List ℕ × List Step) × (Unit {0} × Action))
+apart top w = (tt, ((top, stepsOf w), (tt, actionOf w)))
 
 apart-text : (top : List ℕ) (w : Way) → editText top w ≡ parts .text (apart top w)
 unfolding editText
 apart-text top w =
     ap (λ t. ascii "at=" ++ t)
     (ap (λ t. hex top ++ (t ++ (byte "\n" ∷ doText w))) (steps-text w)
-    ∙ (ap (λ t. hex top ++ (allText (stepsOf w) ++ (byte "\n" ∷ t))) (act-text w)
-    ∙ sym (append-assoc (hex top) (allText (stepsOf w)) (byte "\n" ∷ actText (actOf w)))))
+    ∙ (ap (λ t. hex top ++ (allText (stepsOf w) ++ (byte "\n" ∷ t))) (action-text w)
+    ∙ sym (append-assoc (hex top) (allText (stepsOf w)) (byte "\n" ∷ actionText (actionOf w)))))
 
 apart-valid : (top : List ℕ) (w : Way) → ValidEdit top w → parts .Valid (apart top w)
 apart-valid top w v =
-    (tt, ((v .first, (omega (arith, v .reach, steps-count w), steps-good w (v .rest))), (tt, act-valid w (v .rest))))
+    (tt, ((v .first, (omega (arith, v .reach, steps-count w), steps-good w (v .rest))), (tt, action-valid w (v .rest))))
 
 -- no edit stands there
 abbrev pub Unsaid : List ℕ → Type 0
@@ -282,26 +282,26 @@ module _ (s : List ℕ) (a : ℕ) where
       behind-way h = behind-at (no-second ways ends (λ x y t v m. refl) s n (way .top, way .xs) (r .next) (way .took) h)
 
       pub no-feed : Never (fixed (ascii "\n")) s (r .next) → Unsaid (drop a s)
-      no-feed h = behind-way (no-first (fixed (ascii "\n")) acts (λ x y t v m. tt) s (r .next) h)
+      no-feed h = behind-way (no-first (fixed (ascii "\n")) actions (λ x y t v m. tt) s (r .next) h)
 
       module _ (o : ℕ) (feed : Took (fixed (ascii "\n")) s (r .next) tt o) (d : DeedRead) where
         pub no-deed : d .ok ≡ false → ReadsDeed s o d → Unsaid (drop a s)
         no-deed e j =
-            behind-way (no-second (fixed (ascii "\n")) acts (λ x y t v m. tt) s (r .next) tt o feed
-            (subst (λ b. either b (DeedTook s o d) (Never acts s o)) e j))
+            behind-way (no-second (fixed (ascii "\n")) actions (λ x y t v m. tt) s (r .next) tt o feed
+            (subst (λ b. either b (DeedTook s o d) (Never actions s o)) e j))
 
         module _ (done : d .ok ≡ true) (j : ReadsDeed s o d) where
           deed : DeedTook s o d
-          deed = subst (λ b. either b (DeedTook s o d) (Never acts s o)) done j
+          deed = subst (λ b. either b (DeedTook s o d) (Never actions s o)) done j
 
-          all : Took parts s a (tt, ((way .top, way .xs), (tt, deed .act))) (d .next)
+          all : Took parts s a (tt, ((way .top, way .xs), (tt, deed .action))) (d .next)
           all =
-              both (fixed (ascii "at=")) middle (λ x y t v m. tt) s a tt n at ((way .top, way .xs), (tt, deed .act)) (d .next)
-              (both ways ends (λ x y t v m. refl) s n (way .top, way .xs) (r .next) (way .took) (tt, deed .act) (d .next)
-              (both (fixed (ascii "\n")) acts (λ x y t v m. tt) s (r .next) tt o feed (deed .act) (d .next) (deed .took)))
+              both (fixed (ascii "at=")) middle (λ x y t v m. tt) s a tt n at ((way .top, way .xs), (tt, deed .action)) (d .next)
+              (both ways ends (λ x y t v m. refl) s n (way .top, way .xs) (r .next) (way .took) (tt, deed .action) (d .next)
+              (both (fixed (ascii "\n")) actions (λ x y t v m. tt) s (r .next) tt o feed (deed .action) (d .next) (deed .took)))
 
           same : (l : Lines) → ValidLines l → drop a s ≡ linesOf l
-              → (apart (l .top) (l .way) ≡ (tt, ((way .top, way .xs), (tt, deed .act)))) × ([] ≡ drop (d .next) s)
+              → (apart (l .top) (l .way) ≡ (tt, ((way .top, way .xs), (tt, deed .action)))) × ([] ≡ drop (d .next) s)
           same l v e = all .only (apart (l .top) (l .way)) [] (apart-valid (l .top) (l .way) v) tt (whole s a l e)
 
           pub bytes-behind : d .next < length s → Unsaid (drop a s)
@@ -310,8 +310,8 @@ module _ (s : List ℕ) (a : ℕ) where
           pub unsuited : suits (r .last) (d .deed) ≡ false → Unsaid (drop a s)
           unsuited h l v e =
               let q = same l v e .0 in
-              unfit (r .last) (way .xs) (deed .act) (way .tail) (ap (suits (r .last)) (sym (deed .deed)) ∙ h)
-              (subst (λ (p : List Step × Act). Fits (p .0) (p .1)) (λ i. (q i .1 .0 .1, q i .1 .1 .1)) (fits (l .way) (v .rest)))
+              unfit (r .last) (way .xs) (deed .action) (way .tail) (ap (suits (r .last)) (sym (deed .deed)) ∙ h)
+              (subst (λ (p : List Step × Action). Fits (p .0) (p .1)) (λ i. (q i .1 .0 .1, q i .1 .1 .1)) (fits (l .way) (v .rest)))
 
           pub an-edit : length s ≤ d .next → suits (r .last) (d .deed) ≡ true
               → ReadsEdit (drop a s) (record { ok = true; way = r .way; deed = d .deed; words = d .words })
@@ -323,14 +323,14 @@ module _ (s : List ℕ) (a : ℕ) where
                   record {
                     keys = way .keys ∙ ap (λ t. pad 24 (keyWords (way .top) ++ t)) (sym (steps-words (m .way) ∙ ap allWords (m .steps)));
                     count = way .count ∙ ap suc (sym (ap length (m .steps)) ∙ steps-count (m .way));
-                    deed = deed .deed ∙ sym (act-deed (m .way) ∙ ap actDeed (m .act));
-                    words = deed .words ∙ sym (act-words (m .way) ∙ ap actWords (m .act));
+                    deed = deed .deed ∙ sym (action-deed (m .way) ∙ ap actionDeed (m .action));
+                    words = deed .words ∙ sym (action-words (m .way) ∙ ap actionWords (m .action));
                   },
                 );
               }
             where
-              m : Made (way .xs) (deed .act)
-              m = made (r .last) (way .xs) (deed .act) (way .tail) (deed .took .valid) (ap (suits (r .last)) (sym (deed .deed)) ∙ e)
+              m : Made (way .xs) (deed .action)
+              m = made (r .last) (way .xs) (deed .action) (way .tail) (deed .took .valid) (ap (suits (r .last)) (sym (deed .deed)) ∙ e)
 
               valid : ValidEdit (way .top) (m .way)
               valid =
@@ -343,8 +343,8 @@ module _ (s : List ℕ) (a : ℕ) where
               text : drop a s ≡ editText (way .top) (m .way)
               text =
                   all .text
-                  ∙ (ap (λ t. parts .text (tt, ((way .top, way .xs), (tt, deed .act))) ++ t) (drop-of-length-le s h)
-                  ∙ (append-nil (parts .text (tt, ((way .top, way .xs), (tt, deed .act))))
-                  ∙ (ap (λ xs. parts .text (tt, ((way .top, xs), (tt, deed .act)))) (sym (m .steps))
-                  ∙ (ap (λ x. parts .text (tt, ((way .top, stepsOf (m .way)), (tt, x)))) (sym (m .act)) ∙ sym
+                  ∙ (ap (λ t. parts .text (tt, ((way .top, way .xs), (tt, deed .action))) ++ t) (drop-of-length-le s h)
+                  ∙ (append-nil (parts .text (tt, ((way .top, way .xs), (tt, deed .action))))
+                  ∙ (ap (λ xs. parts .text (tt, ((way .top, xs), (tt, deed .action)))) (sym (m .steps))
+                  ∙ (ap (λ x. parts .text (tt, ((way .top, stepsOf (m .way)), (tt, x)))) (sym (m .action)) ∙ sym
                   (apart-text (way .top) (m .way))))))

@@ -113,12 +113,17 @@ module _ (s : List ℕ) (h : HeadRead) (e : h .ok ≡ true) (k : ReadsHead s h) 
   abbrev Edited : Says ValidLines linesOf (drop (h .next) s) → Type 0
   Edited w = Answers (λ l. MeansEdit (r .way) (r .deed) (r .words) (l .top) (l .way)) (r ≡ noEdit) (r .ok) w
 
-  pub a-message : r .ok ≡ true
-      → ReadsMessage s (record { ok = true; op = record { id = h .id; deps = h .deps; way = r .way; deed = r .deed; words = r .words } })
+  -- the message of a head and an edit
+  abbrev joined : MessageRead
+  joined = record {
+    ok = true;
+    op = record { act = record { id = h .id; deps = h .deps; deed = r .deed; words = r .words }; way = r .way };
+  }
+
+  pub a-message : r .ok ≡ true → ReadsMessage s joined
   a-message ok = go (d .says) (d .answers)
     where
-      go : (w : Says ValidLines linesOf (drop (h .next) s)) → Edited w
-          → ReadsMessage s (record { ok = true; op = record { id = h .id; deps = h .deps; way = r .way; deed = r .deed; words = r .words } })
+      go : (w : Says ValidLines linesOf (drop (h .next) s)) → Edited w → ReadsMessage s joined
       go (says l v q) p =
           let o : M.Operation = record { id = h .id; deps = h .deps .at; top = l .top; way = l .way } in
           record {

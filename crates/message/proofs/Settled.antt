@@ -50,11 +50,13 @@ messages-alike : (x y : MessageRead) (o : M.Operation) → x .ok ≡ true → y 
 messages-alike x y o f g p q = λ i. record {
   ok = (f ∙ sym g) i;
   op = record {
-    id = (p .id ∙ sym (q .id)) i;
-    deps = record { at = (p .deps ∙ sym (q .deps)) i };
+    act = record {
+      id = (p .id ∙ sym (q .id)) i;
+      deps = record { at = (p .deps ∙ sym (q .deps)) i };
+      deed = (p .edit .deed ∙ sym (q .edit .deed)) i;
+      words = (p .edit .words ∙ sym (q .edit .words)) i;
+    };
     way = record { keys = (p .edit .keys ∙ sym (q .edit .keys)) i; n = (p .edit .count ∙ sym (q .edit .count)) i };
-    deed = (p .edit .deed ∙ sym (q .edit .deed)) i;
-    words = (p .edit .words ∙ sym (q .edit .words)) i;
   };
 }
 

@@ -66,9 +66,9 @@ pub record MeansEdit (way : Way) (d : Deed) (value top : List ℕ) (w : M.Way) :
   pub words : value ≡ deedWords w
 
 pub record Means (op : Operation) (o : M.Operation) : Type 0 where
-  pub id : op .id ≡ o .id
-  pub deps : op .deps .at ≡ o .deps
-  pub edit : MeansEdit (op .way) (op .deed) (op .words) (o .top) (o .way)
+  pub id : op .act .id ≡ o .id
+  pub deps : op .act .deps .at ≡ o .deps
+  pub edit : MeansEdit (op .way) (op .act .deed) (op .act .words) (o .top) (o .way)
 
 -- the way of a place
 pub record MeansPlace (way : Way) (w : PlaceWay) : Type 0 where

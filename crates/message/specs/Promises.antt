@@ -27,7 +27,7 @@ noEdit = record { ok = false; way = noWay; deed = D.Delete; words = pad 4 [] }
 abbrev pub noMessage : MessageRead
 noMessage = record {
   ok = false;
-  op = record { id = 0; deps = record { at = pad 8 [] }; way = noWay; deed = D.Delete; words = pad 4 [] };
+  op = record { act = record { id = 0; deps = record { at = pad 8 [] }; deed = D.Delete; words = pad 4 [] }; way = noWay };
 }
 
 abbrev pub noPlace : PlaceRead

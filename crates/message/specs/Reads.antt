@@ -19,7 +19,7 @@ use Rattle.readers.specs.declared.Key.{Key}
 use Rattle.readers.specs.declared.GivenRead.{GivenRead}
 use Rattle.message.specs.Means.{elementWords, headWords, pad}
 use Rattle.message.specs.Steps.{Step, key, element, caret, steps, stepWords, allWords, Finished, Open, InList, trails}
-use Rattle.message.specs.Steps.{Act, assigns, inserts, deletes, acts}
+use Rattle.message.specs.Steps.{Action, assigns, inserts, deletes, actions}
 use Rattle.message.specs.declared.StepRead.{StepRead}
 use Rattle.message.specs.declared.StepRead.the-variants as S
 use Rattle.message.specs.declared.WayRead.{WayRead}
@@ -86,24 +86,24 @@ valueLines = record { Valid = ValidAssigned; text = λ v. assignedText v ++ asci
 abbrev pub ReadsValueLine : List ℕ → ℕ → GivenRead → Type 0
 ReadsValueLine s a r = either (r .ok) (GivenTook valueLines (λ v. v) s a r) (Never valueLines s a)
 
-unfoldable pub actDeed : Act → Deed
-actDeed (assigns v) = D.Assign (givenOf v)
-actDeed (inserts v) = D.Insert (givenOf v)
-actDeed deletes = D.Delete
+unfoldable pub actionDeed : Action → Deed
+actionDeed (assigns v) = D.Assign (givenOf v)
+actionDeed (inserts v) = D.Insert (givenOf v)
+actionDeed deletes = D.Delete
 
-unfoldable pub actWords : Act → List ℕ
-actWords (assigns v) = valueWords v
-actWords (inserts v) = valueWords v
-actWords deletes = wordsOf 4 []
+unfoldable pub actionWords : Action → List ℕ
+actionWords (assigns v) = valueWords v
+actionWords (inserts v) = valueWords v
+actionWords deletes = wordsOf 4 []
 
 pub record DeedTook (s : List ℕ) (a : ℕ) (r : DeedRead) : Type 0 where
-  pub act : Act
-  pub took : Took acts s a act (r .next)
-  pub deed : r .deed ≡ actDeed act
-  pub words : r .words ≡ actWords act
+  pub action : Action
+  pub took : Took actions s a action (r .next)
+  pub deed : r .deed ≡ actionDeed action
+  pub words : r .words ≡ actionWords action
 
 abbrev pub ReadsDeed : List ℕ → ℕ → DeedRead → Type 0
-ReadsDeed s a r = either (r .ok) (DeedTook s a r) (Never acts s a)
+ReadsDeed s a r = either (r .ok) (DeedTook s a r) (Never actions s a)
 
 -- what may be done at a way with this last key: an insert behind an element id or `^`, anything else not at `^`
 abbrev pub suits : ℕ → Deed → Bool

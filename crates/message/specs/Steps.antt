@@ -85,20 +85,20 @@ abbrev pub trails : Layout (List Step)
 trails = record { Valid = λ xs. (length xs ≤ 7) × Good xs; text = allText; More = λ xs. Finished }
 
 -- what is done, and its lines
-pub data Act : Type 0 where
-  assigns : Assigned → Act
-  inserts : Assigned → Act
-  deletes : Act
+pub data Action : Type 0 where
+  assigns : Assigned → Action
+  inserts : Assigned → Action
+  deletes : Action
 
-unfoldable pub actText : Act → List ℕ
-actText (assigns a) = ascii "do=assign\nvalue=" ++ (assignedText a ++ ascii "\n")
-actText (inserts a) = ascii "do=insert\nvalue=" ++ (assignedText a ++ ascii "\n")
-actText deletes = ascii "do=delete\n"
+unfoldable pub actionText : Action → List ℕ
+actionText (assigns a) = ascii "do=assign\nvalue=" ++ (assignedText a ++ ascii "\n")
+actionText (inserts a) = ascii "do=insert\nvalue=" ++ (assignedText a ++ ascii "\n")
+actionText deletes = ascii "do=delete\n"
 
-abbrev pub ValidAct : Act → Type 0
-ValidAct (assigns a) = ValidAssigned a
-ValidAct (inserts a) = ValidAssigned a
-ValidAct deletes = Unit {0}
+abbrev pub ValidAction : Action → Type 0
+ValidAction (assigns a) = ValidAssigned a
+ValidAction (inserts a) = ValidAssigned a
+ValidAction deletes = Unit {0}
 
-abbrev pub acts : Layout Act
-acts = record { Valid = ValidAct; text = actText; More = λ x t. Unit {0} }
+abbrev pub actions : Layout Action
+actions = record { Valid = ValidAction; text = actionText; More = λ x t. Unit {0} }

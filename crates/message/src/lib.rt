@@ -31,13 +31,18 @@ pub enum Deed {
     Delete,
 }
 
-// An operation; the words are those of its value, if it is a string.
-pub struct Operation {
+// What is done, and by which operation; the words are those of its value, if it is a string.
+pub struct Act {
     pub id: u64,
     pub deps: Counters,
-    pub way: Way,
     pub deed: Deed,
     pub words: [u64; 4],
+}
+
+// An operation: what is done, and at which way's end.
+pub struct Operation {
+    pub act: Act,
+    pub way: Way,
 }
 
 // A step of a way; or the way ends here.
@@ -143,11 +148,13 @@ fn no_message() -> MessageRead
     MessageRead {
         ok: false,
         op: Operation {
-            id: 0,
-            deps,
+            act: Act {
+                id: 0,
+                deps,
+                deed: Deed::Delete,
+                words: [0u64; 4],
+            },
             way,
-            deed: Deed::Delete,
-            words: [0u64; 4],
         },
     }
 }
@@ -170,14 +177,14 @@ pub fn take_message(s: &[u8]) -> MessageRead
     let way = x.way;
     let deed = x.deed;
     let words = x.words;
+    let act = Act {
+        id: h.id,
+        deps,
+        deed,
+        words,
+    };
     MessageRead {
         ok: true,
-        op: Operation {
-            id: h.id,
-            deps,
-            way,
-            deed,
-            words,
-        },
+        op: Operation { act, way },
     }
 }

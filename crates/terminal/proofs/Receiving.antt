@@ -92,7 +92,7 @@ early-above o X e = go (notAbove o) refl
     go true q = absurd (false≢true (ap isEarly (rw q at e)))
 
 -- An operation that comes too early.
-module _ (t : List ℕ) (s : State) (op : M.Operation) (b : Bool) (W : TellsWaits t (s .waiting) (op .id) b) where
+module _ (t : List ℕ) (s : State) (op : M.Operation) (b : Bool) (W : TellsWaits t (s .waiting) (op .act .id) b) where
   told : (T : Tables) (X : Terminal) (o : Operation) → Keeps T t s X → Means op o → b ≡ waits (o .id) (X .waiting)
   unfolding TellsWaits
   told T X o K m = rw (← m .id) (W (X .waiting) (K .waiting))

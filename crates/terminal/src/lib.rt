@@ -61,7 +61,7 @@ fn wait(waiting: &mut [u64], s: State, op: Operation) -> Received
     ensures { λ r. ⌜ Awaits (now (waiting .entry)) s op r (now (waiting .exit)) ⌝ }
 {
     let n = s.waiting;
-    let id = op.id;
+    let id = op.act.id;
     if waiting::waits(waiting, n, id) {
         return Received {
             answer: Receipt::WaitsAlready,

@@ -20,7 +20,8 @@ use Rattle.message.specs.Means.{wayWords, pad, deedOf, deedWords, Means}
 use Rattle.message.specs.declared.Deed.{Deed}
 use Rattle.message.specs.declared.Deed.the-variants as D
 use Rattle.message.specs.declared.Operation as M
-use Rattle.waiting.specs.Rows.{givenCode, givenNumber, givenBy, deedCode, deedNumber, deedBy, counters, rowWords, opWords, ReadsRow}
+use Rattle.waiting.specs.Rows.{givenCode, givenNumber, givenBy, deedCode, deedNumber, deedBy}
+use Rattle.waiting.specs.Rows.{counters, rowWords, opWords, heldWords, ReadsRow}
 use Rattle.waiting.specs.Waits.{idOf}
 
 -- n words
@@ -101,8 +102,7 @@ unfolding opWords
 strides-ops = record { some = omega arith; wide = op-long; first = λ o. refl }
 
 -- Written from what the code holds.
-pub means-words : (op : M.Operation) (o : Operation) → Means op o → ValidOperation o
-    → rowWords (op .id) (op .deps .at) (op .way .keys) (op .way .n) (op .deed) (op .words) ≡ opWords o
+pub means-words : (op : M.Operation) (o : Operation) → Means op o → ValidOperation o → heldWords op ≡ opWords o
 unfolding opWords
 means-words op o m v =
     let d = pad-same 8 (o .deps) (v .deps .eight) in

@@ -17,7 +17,7 @@ use Rattle.words.specs.Words.{run, overAt, opened, closed, inserted}
 use Rattle.words.specs.Rows.{rankRows, rankOf, flat, Ranked}
 use Rattle.words.proofs.Over.{open-write}
 use Rattle.message.specs.declared.Operation as M
-use Rattle.waiting.specs.Rows.{counters, rowWords, opWords, ReadsRow}
+use Rattle.waiting.specs.Rows.{counters, heldWords, opWords, ReadsRow}
 use Rattle.waiting.specs.Waits.{room, idOf, Waits, TellsEarly, Tells, TellsWaits, Puts, TakesOut}
 use Rattle.waiting.proofs.Ops.{op-long, means-words, id-there, entry-there, deps-there, row-means}
 use Rattle.waiting.proofs.Holds.{table-long, rank-is, behind, there, before-long, all-at, taken-out, waits-past, waits-at, put-in}
@@ -102,9 +102,9 @@ module _ (t : List ℕ) (n id k : ℕ) (K : Ranked n (rankRows 40 id n (drop 0 t
       rw (W .table, r) (sym (waits-at id os (replicate (room - length (flat opWords os)) 0) (W .ascending) (omega (arith, W .count))))
 
 -- a row is written where it was opened
-pub puts : (op : M.Operation) (t t₁ t₂ : List ℕ) (n k : ℕ) → room ≤ length t → n < 64 → Ranked n (rankRows 40 (op .id) n (drop 0 t)) k
+pub puts : (op : M.Operation) (t t₁ t₂ : List ℕ) (n k : ℕ) → room ≤ length t → n < 64 → Ranked n (rankRows 40 (op .act .id) n (drop 0 t)) k
     → t₁ ≡ opened (40 * n) (40 * k) 40 t
-    → t₂ ≡ overAt (40 * k) (rowWords (op .id) (op .deps .at) (op .way .keys) (op .way .n) (op .deed) (op .words)) t₁
+    → t₂ ≡ overAt (40 * k) (heldWords op) t₁
     → Puts op t n t₂ (n + 1)
 puts op t t₁ t₂ n k x y K a b =
     record {

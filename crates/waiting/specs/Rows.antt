@@ -77,11 +77,16 @@ opWords o =
     rowWords (o .id) (pad 8 (o .deps)) (pad 24 (keyWords (o .top) ++ wayWords (o .way))) (suc (steps (o .way))) (deedOf (o .way))
     (deedWords (o .way))
 
+-- of one as the code holds it
+abbrev pub heldWords : M.Operation → List ℕ
+heldWords op =
+    rowWords (op .act .id) (op .act .deps .at) (op .way .keys) (op .way .n) (op .act .deed) (op .act .words)
+
 -- r is the operation whose words stand at a place
 pub record ReadsRow (t : List ℕ) (at : ℕ) (r : M.Operation) : Type 0 where
-  pub id : r .id ≡ getD t at 0
-  pub deps : r .deps .at ≡ counters (run (at + 1) 8 t)
+  pub id : r .act .id ≡ getD t at 0
+  pub deps : r .act .deps .at ≡ counters (run (at + 1) 8 t)
   pub keys : r .way .keys ≡ run (at + 9) 24 t
   pub count : r .way .n ≡ getD t (at + 33) 0
-  pub deed : r .deed ≡ deedBy (getD t (at + 34) 0) (getD t (at + 35) 0)
-  pub words : r .words ≡ run (at + 36) 4 t
+  pub deed : r .act .deed ≡ deedBy (getD t (at + 34) 0) (getD t (at + 35) 0)
+  pub words : r .act .words ≡ run (at + 36) 4 t

@@ -96,7 +96,7 @@ pub fn put(t: &mut [u64], n: usize, op: Operation) -> usize
     if n >= MOST {
         return n;
     }
-    let at = ROW * rank_rows(t, 0, n, ROW, op.id);
+    let at = ROW * rank_rows(t, 0, n, ROW, op.act.id);
     open(t, ROW * n, at, ROW);
     write_row(t, at, op);
     n + 1

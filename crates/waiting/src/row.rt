@@ -1,5 +1,6 @@
 // An operation as forty words: written, and read. What stands where says specs/Rows.
 use meaning::Counters;
+use message::Act;
 use message::Deed;
 use message::Operation;
 use message::Way;
@@ -11,7 +12,7 @@ ghost use mathlib.Core.Path.{_≡_};
 ghost use lib.ListN.{length};
 ghost use Rattle.words.specs.Words.{run, overAt};
 ghost use Rattle.waiting.specs.Rows.{givenCode, givenNumber, givenBy, deedCode, deedNumber, deedBy};
-ghost use Rattle.waiting.specs.Rows.{counters, rowWords, ReadsRow};
+ghost use Rattle.waiting.specs.Rows.{counters, heldWords, ReadsRow};
 
 // The code of a value.
 fn given_code(g: Given) -> u64
@@ -137,18 +138,17 @@ fn lay_counters(t: &mut [u64], at: usize, deps: [u32; 8])
 // Writes the words of an operation from `at` on.
 pub(crate) fn write_row(t: &mut [u64], at: usize, op: Operation)
     requires { ⌜ at + 40 ≤ length (now t) ⌝ }
-    ensures { λ _.
-        ⌜ now (t .exit)
-        ≡ overAt at (rowWords (op .id) (op .deps .at) (op .way .keys) (op .way .n) (op .deed) (op .words)) (now (t .entry)) ⌝ }
+    ensures { λ _. ⌜ now (t .exit) ≡ overAt at (heldWords op) (now (t .entry)) ⌝ }
 {
-    let counters = op.deps;
+    let act = op.act;
+    let counters = act.deps;
     let deps = counters.at;
     let way = op.way;
     let keys = way.keys;
     let n = way.n;
-    let deed = op.deed;
-    let words = op.words;
-    t[at] = op.id;
+    let deed = act.deed;
+    let words = act.words;
+    t[at] = act.id;
     lay_counters(t, at + 1, deps);
     lay(t, at + 9, &keys);
     write3(t, at + 33, n as u64, deed_code(deed), deed_number(deed));
@@ -167,25 +167,30 @@ pub(crate) fn read_row(t: &[u64], at: usize) -> Operation
     copy(t, at + 36, &mut words);
     let n = t[at + 33] as usize;
     let deed = deed_by(t[at + 34], t[at + 35]);
-    Operation {
+    let act = Act {
         id: t[at],
         deps,
-        way: Way { keys, n },
         deed,
         words,
+    };
+    Operation {
+        act,
+        way: Way { keys, n },
     }
 }
 
 // Any operation: there is none to tell of.
 pub(crate) fn no_op() -> Operation {
     Operation {
-        id: 0,
-        deps: Counters { at: [0u32; 8] },
+        act: Act {
+            id: 0,
+            deps: Counters { at: [0u32; 8] },
+            deed: Deed::Delete,
+            words: [0u64; 4],
+        },
         way: Way {
             keys: [0u64; 24],
             n: 0,
         },
-        deed: Deed::Delete,
-        words: [0u64; 4],
     }
 }

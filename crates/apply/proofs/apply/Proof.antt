@@ -23,8 +23,8 @@ returns c =
 
 returns-2 : tie.Need-returns-2
 returns-2 c =
-    let at-carry-out = c .before .before .before .before .before .before .before .before .before in
-    let at-if1 = at-carry-out .before .before .before .before .before in
+    let at-take-at = c .before .before .before .before .before .before .before .before .before .before in
+    let at-if1 = at-take-at .before .before .before .before .before in
     let at-is-taken = at-if1 .before in
     let at-judgement-of = at-is-taken .before in
     let at-judge-ready = at-judgement-of .before in
@@ -36,8 +36,7 @@ returns-2 c =
     (judges-ready _ _ _ (at-start .args .op) _ (at-judge-counters .judge-counters .ensures) _ _ _ (at-enum-told .enum-told .given .1)
     (at-top-of .top-of .ensures _ _ _ refl) (at-judge-ready .judge-ready .ensures) (at-judgement-of .judgement-of .ensures))
     _ _ (sym (at-is-taken .is-taken .ensures) ∙ not-false _ (at-if1 .if1 .left))
-    (takes-on _ _ _ (at-start .args .op) _ _ _ _ (at-top-of .top-of .ensures _ _ _ refl) (at-carry-out .carry-out .ensures)
-    (c .raise .ensures))
+    (takes-on _ _ _ (at-start .args .op) _ _ _ (at-top-of .top-of .ensures _ _ _ refl) (at-take-at .take-at .ensures))
 
 returns-3 : tie.Need-returns-3
 returns-3 c =
@@ -68,7 +67,6 @@ apply-spec =
     (λ c. search needs)
     (λ c. search needs)
     returns
-    (λ c κs. search needs)
     (λ c κs. search needs)
     (λ c. search needs)
     (λ c. search needs)

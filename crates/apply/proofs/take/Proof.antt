@@ -7,17 +7,15 @@ use Rattle.apply.proofs.take.Tie as tie
 
 returns : tie.Need-returns
 returns c =
-    let at-carry-out = c .before .before .before .before .before .before .before .before .before in
-    let at-top-of = at-carry-out .before .before .before .before .before in
+    let at-take-at = c .before .before .before .before .before .before .before .before in
+    let at-top-of = at-take-at .before .before .before .before .before in
     let at-start = at-top-of .before .before .before .before .before .before .before in
-    takes-on _ _ _ (at-start .args .op) _ _ _ _ (at-top-of .top-of .ensures _ _ _ refl) (at-carry-out .carry-out .ensures)
-    (c .raise .ensures)
+    takes-on _ _ _ (at-start .args .op) _ _ _ (at-top-of .top-of .ensures _ _ _ refl) (at-take-at .take-at .ensures)
 
 pub take-spec : {M : Type 1} → statement M
 take-spec =
     tie.close
     (tie.spec
-    (λ c κs. search needs)
     (λ c κs. search needs)
     (λ c κs. search needs)
     (λ c. search needs)

@@ -7,14 +7,14 @@ use Rattle.judging.proofs.judge_counters.Tie as tie
 returns : tie.Need-returns
 returns c =
     let at-not-above = c .before in
-    let at-start = at-not-above .before .before in
+    let at-start = at-not-above .before .before .before in
     forestalls-two _ (at-start .args .op) _ (at-not-above .not-above .ensures) (c .if1 .taken)
 
 returns-2 : tie.Need-returns-2
 returns-2 c =
     let at-if1 = c .before .before in
     let at-not-above = at-if1 .before in
-    let at-start = at-not-above .before .before in
+    let at-start = at-not-above .before .before .before in
     forestalls-three _ (at-start .args .op) _ (at-not-above .not-above .ensures) (at-if1 .if1 .left) _
     (c .before .repeated .ensures) (c .if2 .taken)
 
@@ -24,7 +24,7 @@ returns-3 c =
     let at-repeated = at-if2 .before in
     let at-if1 = at-repeated .before in
     let at-not-above = at-if1 .before in
-    let at-start = at-not-above .before .before in
+    let at-start = at-not-above .before .before .before in
     forestalls-four _ (at-start .args .op) _ (at-not-above .not-above .ensures) (at-if1 .if1 .left) _
     (at-repeated .repeated .ensures) (at-if2 .if2 .left) _ (c .before .own-deps-behind .ensures) (c .if3 .taken)
 
@@ -36,7 +36,7 @@ returns-4 c =
     let at-repeated = at-if2 .before in
     let at-if1 = at-repeated .before in
     let at-not-above = at-if1 .before in
-    let at-start = at-not-above .before .before in
+    let at-start = at-not-above .before .before .before in
     forestalls-none _ (at-start .args .op) _ (at-not-above .not-above .ensures) (at-if1 .if1 .left) _
     (at-repeated .repeated .ensures) (at-if2 .if2 .left) _ (at-own-deps-behind .own-deps-behind .ensures) (at-if3 .if3 .left) _
     (c .before .ready .ensures) (c .if4 .taken)
@@ -49,7 +49,7 @@ returns-5 c =
     let at-repeated = at-if2 .before in
     let at-if1 = at-repeated .before in
     let at-not-above = at-if1 .before in
-    let at-start = at-not-above .before .before in
+    let at-start = at-not-above .before .before .before in
     forestalls-early _ (at-start .args .op) _ (at-not-above .not-above .ensures) (at-if1 .if1 .left) _
     (at-repeated .repeated .ensures) (at-if2 .if2 .left) _ (at-own-deps-behind .own-deps-behind .ensures) (at-if3 .if3 .left) _
     (c .before .ready .ensures) (c .if4 .left)

@@ -1,5 +1,5 @@
 -- `waiting::row::write_row` meets its contract: the parts of the row, one behind another. Assumes nothing.
-use mathlib.Core.Path.{_≡_, _∙_}
+use mathlib.Core.Path.{_≡_, sym, _∙_}
 use native.Mathlib.Omega.{arith}
 use lib.ListN.{length, length-set}
 use Rattle.waiting.proofs.Written.{written}
@@ -8,19 +8,19 @@ use Rattle.waiting.proofs.row.write_row.Statement.{statement}
 use Rattle.waiting.proofs.row.write_row.Tie as tie
 
 -- the lengths of the arrays
-eight : (c : tie.Start) → length (c .args .op .deps .at) ≡ 8
+eight : (c : tie.Start) → length (c .args .op .act .deps .at) ≡ 8
 eight c = search needs
 
 keys-long : (c : tie.Start) → length (c .args .op .way .keys) ≡ 24
 keys-long c = search needs
 
-words-long : (c : tie.Start) → length (c .args .op .words) ≡ 4
+words-long : (c : tie.Start) → length (c .args .op .act .words) ≡ 4
 words-long c = search needs
 
 -- the table keeps its length, part by part; `begin` is the entry, seen from the first
 abbrev begin : tie.After-lay-counters → tie.Start
 begin c =
-    c .before .before .before .before .before .before .before .before
+    c .before .before .before .before .before .before .before .before .before
 
 first-long : (c : tie.After-lay-counters) → length (c .lay-counters .last .0) ≡ length (begin c .args .t .now)
 first-long c = simp length-set at (c .lay-counters .kept .0)
@@ -29,14 +29,17 @@ second-long : (c : tie.After-lay) → length (c .lay .last .0) ≡ length (begin
 second-long c =
     c .lay .kept .0 ∙ first-long (c .before .before .before .before .before)
 
-third-long : (c : tie.After-write3) → length (c .write3 .last .0) ≡ length
-    (begin (c .before .before .before .before .before .before .before .before .before .before .before) .args .t .now)
+-- `begin`, seen from the third
+abbrev start : tie.After-write3 → tie.Start
+start c = begin (c .before .before .before .before .before .before .before .before .before .before .before)
+
+third-long : (c : tie.After-write3) → length (c .write3 .last .0) ≡ length (start c .args .t .now)
 third-long c =
     c .write3 .kept .0 ∙ second-long (c .before .before .before .before .before .before)
 
 lay-counters-requires : tie.Need-lay-counters-requires
 lay-counters-requires c κs =
-    let at-pre = c .before .before .before .before .before .before .before in
+    let at-pre = c .before .before .before .before .before .before .before .before in
     simp length-set (omega (arith, at-pre .pre))
 
 lay-requires : tie.Need-lay-requires
@@ -52,8 +55,7 @@ write3-requires c κs =
 lay-requires-2 : tie.Need-lay-requires-2
 lay-requires-2 c κs =
     let w = c .before .before .before .before in
-    let s = begin (w .before .before .before .before .before .before .before .before .before .before .before) in
-    omega (arith, s .pre, words-long s, third-long w)
+    omega (arith, start w .pre, words-long (start w), third-long w)
 
 same-length : tie.Need-same-length
 same-length c =
@@ -87,7 +89,7 @@ write-row-spec =
     (λ c κs. search needs)
     write3-requires
     (λ c. search needs)
-    (λ c. search needs)
+    (λ c. sym (words-long (start (c .before .before .before .before))))
     lay-requires-2
     same-length
     returns)
