@@ -19,11 +19,10 @@ use Rattle.rows.specs.Blocks.{passed, rest, markRow, dropRow, addRow, clearRow,
 use Rattle.rows.specs.Counting.{Fresh}
 use Rattle.rows.specs.Within.{GoesOn}
 use Rattle.rows.specs.Balanced.{clear-marks-length, fresh-clear, clear-values-length, fresh-clear-values, clears-rows, passed-rest}
-use Rattle.readers.specs.Words.{wordsOf, pack, valueWords}
+use Rattle.readers.specs.Words.{wordsOf, pack, valueWords, plainWords}
 use Rattle.readers.specs.Given.{givenOf}
 use Rattle.readers.specs.declared.Given.{Given}
 use Rattle.message.specs.Means.{prevWords, wayWords, deedOf, deedWords}
-use Rattle.tables.specs.Words.{plainWords}
 use Rattle.tables.specs.Standing.{behind}
 use Rattle.tables.specs.Holding.{Holds, four, flagRow}
 use Rattle.tables.specs.Parts.{at-behind}

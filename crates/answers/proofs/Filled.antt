@@ -3,12 +3,12 @@
 use Prim.Native.Nat.{ℕ, _+_, _≤_, _<_}
 use native.Mathlib.Omega.{arith}
 use mathlib.Core.Path.{_≡_, refl, ap}
-use mathlib.Core.List.{List, [], _++_}
+use mathlib.Core.List.{List, _++_}
 use lib.ListN.{length, length-append}
 use Rattle.meaning.specs.declared.Saved.the-variants.{Written, ShortBuffer}
 use Rattle.decimal.specs.Take.{Wrote}
 use Rattle.writers.specs.Wrote.{WroteAt}
-use Rattle.writers.proofs.Over.{wrote-none, first, last-room, last}
+use Rattle.writers.proofs.Over.{first, last-room, last}
 use Rattle.answers.specs.Fills.{needed, Fills}
 
 module _ (text before : List ℕ) where
@@ -28,10 +28,6 @@ module _ (text before : List ℕ) where
   -- 0
   pub written : {after : List ℕ} {n : ℕ} → length text ≤ length before → Wrote text before after n → Fills text before (Written n) after
   written l w = record { short = λ h. absurd (omega arith); whole = λ h. (ap Written (w .size), w .buffer) }
-
--- nothing is to be given
-pub nothing : {text : List ℕ} (before : List ℕ) → text ≡ [] → Fills text before (Written 0) before
-nothing before e = rw e (written [] before (omega arith) (wrote-none before))
 
 -- Of two texts the first is written, and then the other behind it.
 module _ (head rest before : List ℕ) where

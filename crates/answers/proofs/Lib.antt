@@ -2,6 +2,3 @@
 pub mod Filled
 pub mod Once
 pub mod Messages
-pub mod Rows
-pub mod Trees
-pub mod Readings

@@ -1,3 +1,2 @@
 -- What contracts and proofs cite of `answers`, a file a subject.
 pub mod Fills
-pub mod Keys

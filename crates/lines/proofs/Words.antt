@@ -1,18 +1,24 @@
--- What is written of words is what was read into them: the bytes of a key or a string, packed into words, are read back.
+-- What is written of words is what was read into them: the bytes of a key, packed into words, are read back, and so is a plain value.
 -- Assumes nothing.
 use Prim.Native.Nat.{ℕ, zero, suc, _+_, _-_, _*_, _/_, _%_, _^_, _≤_, _<_}
 use native.Mathlib.Nat.{pow-suc, pow-succ', mod-eq-of-lt, mod-lt, mul-add-div-right, mul-assoc, zero-div}
 use native.Mathlib.Omega.{arith}
 use mathlib.Core.Path.{_≡_, refl, sym, ap, _∙_}
+use mathlib.Core.Bool.{true, false}
 use mathlib.Core.List.{List, [], _∷_, _++_}
+use borrow.Author.Tests.{le-ltb, ne-eqb}
 use lib.Arith.{digits-div}
+use lib.IntN.{pos, negsuc}
 use lib.ListN.{length, take, drop, getD}
 use lib.Pow.{pow-add}
 use lib.Seq.{take-suc, take-length, drop-drop, getD-drop}
-use Rattle.meaning.specs.Valid.{Bytes, ValidKey, ValidString}
-use Rattle.readers.specs.Words.{weight, pack, wordsOf}
+use Rattle.meaning.specs.Places.{Plain, null, bool, integer, string}
+use Rattle.meaning.specs.Valid.{Bytes, ValidKey, ValidString, ValidPlain}
+use Rattle.readers.specs.Words.{weight, pack, wordsOf, plainWords}
 use Rattle.readers.specs.Order.{weight-some, pack-small, bytes-drop}
 use Rattle.writers.specs.Words.{byteOf, bytesOf}
+use Rattle.writers.specs.Held.{kindIn, plainOf, plainIn}
+use Rattle.writers.specs.declared.Kind.the-variants.{String}
 
 weight-pow : (m : ℕ) → weight m ≡ 256 ^ m
 unfolding weight
@@ -75,5 +81,34 @@ pub key-back : (k : List ℕ) → ValidKey k → bytesOf (pack 8 k ∷ pack 8 (d
 unfolding wordsOf
 key-back k v = bytes-back 2 k (v .bytes) (v .short)
 
-pub string-back : (b : List ℕ) → ValidString b → bytesOf (wordsOf 4 b) (length b) ≡ b
+string-back : (b : List ℕ) → ValidString b → bytesOf (wordsOf 4 b) (length b) ≡ b
 string-back b v = bytes-back 4 b (v .bytes) (v .short)
+
+string-kind : (n m : ℕ) → n ≤ 32 → kindIn (5 + n) m ≡ String n
+unfolding kindIn
+string-kind n m h =
+    let a : 5 + n ≡ 1 → ⊥ = λ e. omega arith in
+    let b : 5 + n ≡ 2 → ⊥ = λ e. omega arith in
+    let d : 5 + n ≡ 3 → ⊥ = λ e. omega arith in
+    let f : 5 + n ≡ 4 → ⊥ = λ e. omega arith in
+    let l : 5 + n - 5 ≡ n = omega arith in
+    rw (
+      ne-eqb (5 + n) 1 a,
+      ne-eqb (5 + n) 2 b,
+      ne-eqb (5 + n) 3 d,
+      ne-eqb (5 + n) 4 f,
+      le-ltb (5 + n) 5 (omega arith),
+      le-ltb 37 (5 + n) (omega arith),
+      l,
+    )
+
+-- a plain value
+pub plain-back : (x : Plain) → ValidPlain x → plainIn (getD (plainWords x) 0 0) (drop 1 (plainWords x)) ≡ x
+unfolding kindIn wordsOf
+plain-back null h = refl
+plain-back (bool true) h = refl
+plain-back (bool false) h = refl
+plain-back (integer (pos n)) h = rw (le-ltb 9223372036854775807 n h)
+plain-back (integer (negsuc n)) h = rw (le-ltb 9223372036854775807 n h)
+plain-back (string b) h =
+    ap (λ k. plainOf k (wordsOf 4 b)) (string-kind (length b) (pack 8 b) (h .short)) ∙ ap string (string-back b h)

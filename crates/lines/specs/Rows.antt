@@ -6,12 +6,11 @@ use mathlib.Core.List.{List, _++_}
 use Rattle.meaning.specs.Ascii.{ascii}
 use Rattle.meaning.specs.Places.{Value}
 use Rattle.meaning.specs.Text.{idText, countersText, hex, plainText}
-use Rattle.writers.specs.Held.{plainOf}
-use Rattle.writers.specs.declared.Kind.{Kind}
+use Rattle.writers.specs.Held.{plainIn}
 
--- a value of a place, of what the tables hold
-abbrev pub valueOf : ℕ → Kind → List ℕ → Value
-valueOf id kind words = record { id = id; val = plainOf kind words }
+-- a value of a place, as the tables hold it: its id, the number of its kind, and four words
+abbrev pub valueOf : ℕ → ℕ → List ℕ → Value
+valueOf id kind words = record { id = id; val = plainIn kind words }
 
 unfoldable pub keyRow : List ℕ → List ℕ
 keyRow k = hex k ++ ascii "\n"

@@ -3,7 +3,6 @@
 // byte is written.
 use decimal::decimal_size;
 use meaning::Counters;
-use writers::Kind;
 use writers::counters_size;
 use writers::id_size;
 use writers::plain_size;
@@ -26,7 +25,6 @@ ghost use Rattle.decimal.specs.Powers.{powersOfTen};
 ghost use Rattle.writers.specs.Wrote.{WroteAt};
 ghost use Rattle.writers.specs.Sized.{Sized};
 ghost use Rattle.writers.specs.Words.{bytesOf};
-ghost use Rattle.writers.specs.Held.{InBounds};
 ghost use Rattle.lines.specs.Rows.{valueOf, keyRow, idRow, valueRow, messageHead};
 ghost use Rattle.lines.specs.Spots.{spotOf, ShortKey, SpotSized};
 
@@ -58,11 +56,11 @@ pub fn put_id_row(buf: &mut [u8], id: u64, powers: &[u64; 20]) -> usize
 pub fn put_value_row(
     buf: &mut [u8],
     id: u64,
-    kind: Kind,
+    kind: u64,
     words: [u64; 4],
     powers: &[u64; 20],
 ) -> usize
-    requires { ⌜ (now powers ≡ powersOfTen) × InBounds kind × (length (valueRow (valueOf id kind words)) ≤ length (now buf)) ⌝ }
+    requires { ⌜ (now powers ≡ powersOfTen) × (length (valueRow (valueOf id kind words)) ≤ length (now buf)) ⌝ }
     ensures { λ r. ⌜ Wrote (valueRow (valueOf id kind words)) (now (buf .entry)) (now (buf .exit)) r ⌝ }
 {
     let a = put_id(buf, id, powers);
@@ -75,11 +73,11 @@ fn then_value_row(
     buf: &mut [u8],
     at: usize,
     id: u64,
-    kind: Kind,
+    kind: u64,
     words: [u64; 4],
     powers: &[u64; 20],
 ) -> usize
-    requires { ⌜ (now powers ≡ powersOfTen) × InBounds kind × (at + length (valueRow (valueOf id kind words)) ≤ length (now buf)) ⌝ }
+    requires { ⌜ (now powers ≡ powersOfTen) × (at + length (valueRow (valueOf id kind words)) ≤ length (now buf)) ⌝ }
     ensures { λ r. ⌜ WroteAt (valueRow (valueOf id kind words)) at (now (buf .entry)) (now (buf .exit)) r ⌝ }
 {
     at + put_value_row(&mut buf[at..], id, kind, words, powers)
@@ -109,11 +107,11 @@ pub fn put_mark_line(buf: &mut [u8], id: u64, powers: &[u64; 20]) -> usize
 pub fn put_value_line(
     buf: &mut [u8],
     id: u64,
-    kind: Kind,
+    kind: u64,
     words: [u64; 4],
     powers: &[u64; 20],
 ) -> usize
-    requires { ⌜ (now powers ≡ powersOfTen) × InBounds kind × (length (lineText (valueLine (valueOf id kind words))) ≤ length (now buf)) ⌝ }
+    requires { ⌜ (now powers ≡ powersOfTen) × (length (lineText (valueLine (valueOf id kind words))) ≤ length (now buf)) ⌝ }
     ensures { λ r. ⌜ Wrote (lineText (valueLine (valueOf id kind words))) (now (buf .entry)) (now (buf .exit)) r ⌝ }
 {
     let a = put_text(buf, b"value=");
@@ -223,8 +221,8 @@ pub fn id_row_size(id: u64, powers: &[u64; 20]) -> usize
     id_size(id, powers) + 1
 }
 
-pub fn value_row_size(id: u64, kind: Kind, words: [u64; 4], powers: &[u64; 20]) -> usize
-    requires { ⌜ (now powers ≡ powersOfTen) × InBounds kind ⌝ }
+pub fn value_row_size(id: u64, kind: u64, words: [u64; 4], powers: &[u64; 20]) -> usize
+    requires { ⌜ now powers ≡ powersOfTen ⌝ }
     ensures { λ r. ⌜ Sized (valueRow (valueOf id kind words)) 108 r ⌝ }
 {
     id_size(id, powers) + 2 + plain_size(kind, words, powers)
@@ -244,8 +242,8 @@ pub fn mark_line_size(id: u64, powers: &[u64; 20]) -> usize
     6 + id_size(id, powers)
 }
 
-pub fn value_line_size(id: u64, kind: Kind, words: [u64; 4], powers: &[u64; 20]) -> usize
-    requires { ⌜ (now powers ≡ powersOfTen) × InBounds kind ⌝ }
+pub fn value_line_size(id: u64, kind: u64, words: [u64; 4], powers: &[u64; 20]) -> usize
+    requires { ⌜ now powers ≡ powersOfTen ⌝ }
     ensures { λ r. ⌜ Sized (lineText (valueLine (valueOf id kind words))) 114 r ⌝ }
 {
     6 + value_row_size(id, kind, words, powers)

@@ -1,6 +1,7 @@
 -- What contracts and proofs cite of `rows`, a file a subject.
 pub mod Blocks
 pub mod Spans
+pub mod Listing
 pub mod Seeking
 pub mod AtKeys
 pub mod AtElements

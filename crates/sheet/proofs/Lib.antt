@@ -1,5 +1,4 @@
 -- The laws that proofs of `sheet` cite, a file a subject.
-pub mod Runs
 pub mod Rows
 pub mod Sheets
 pub mod Saved

@@ -3,22 +3,21 @@
 use Prim.Native.Nat.{ℕ, _+_, _*_, _-_, _≤_, _<_}
 use native.Mathlib.Omega.{arith}
 use mathlib.Core.Path.{_≡_, refl}
-use mathlib.Core.List.{List, [], _∷_, _++_}
-use lib.ListN.{getD}
+use mathlib.Core.List.{List, _++_}
 use Rattle.meaning.specs.Ascii.{ascii}
-use Rattle.meaning.specs.Sheet.{lineText, seenLine, placeLine, endLine}
-use Rattle.writers.specs.declared.Kind.{Kind}
+use Rattle.meaning.specs.Sheet.{lineText, seenLine, placeLine, valueLine, endLine}
 use Rattle.readers.specs.declared.Key.{Key}
 use Rattle.lines.specs.Rows.{valueOf}
 use Rattle.lines.specs.Spots.{spotOf}
 use Rattle.lines.specs.declared.Spot.{Spot}
 use Rattle.tables.specs.Words.{Tables}
-use Rattle.tables.specs.Heads.{headIn, keyAt}
+use Rattle.tables.specs.Heads.{headIn, keyAt, valueAt}
 use Rattle.tables.specs.Seek.{further, Few}
 use Rattle.tables.specs.Standing.{first}
 use Rattle.tables.specs.declared.Head.{Head}
 use Rattle.tables.specs.declared.Position.{Position}
-use Rattle.sheet.specs.Texts.{kindIn, spotIn, placeText, valueAt, marksText, valuesText, headAt, rowText, rowsText, sheetText, Near}
+use Rattle.tables.specs.declared.Value.{Value}
+use Rattle.sheet.specs.Texts.{spotIn, placeText, valueText, marksText, valuesText, headAt, rowText, rowsText, sheetText, Near}
 
 -- a place line of the head and the key that were read
 pub place-here : (h : Head) (keys : List ℕ) (row : ℕ) {key : Key} {spot : Spot} → key ≡ keyAt keys row
@@ -27,13 +26,10 @@ pub place-here : (h : Head) (keys : List ℕ) (row : ℕ) {key : Key} {spot : Sp
 unfolding placeText
 place-here h keys row e s = rw (s, e)
 
--- a value of the words that were read
-pub value-here : (values : List ℕ) (i : ℕ) {id k n x y z : ℕ} {kind : Kind}
-    → n ≡ getD values (6 * i + 2) 0 → k ≡ getD values (6 * i + 1) 0 → kind ≡ kindIn k n
-    → x ≡ getD values (6 * i + 3) 0 → y ≡ getD values (6 * i + 4) 0 → z ≡ getD values (6 * i + 5) 0 → id ≡ getD values (6 * i) 0
-    → valueOf id kind (n ∷ x ∷ y ∷ z ∷ []) ≡ valueAt values i
-unfolding valueAt
-value-here values i a b e x y z d = rw (e, b, a, x, y, z, d)
+-- a value line of the value that was read
+pub value-here : (values : List ℕ) (i : ℕ) {v : Value} → v ≡ valueAt values i
+    → lineText (valueLine (valueOf (v .id) (v .kind) (v .words))) ≡ valueText values i
+value-here values i e = rw e
 
 -- a row, whose head was read, and the sheet, in pieces
 pub row-text : (T : Tables) (s : Position) {h : Head} → h ≡ headIn (headAt T s)

@@ -1,16 +1,15 @@
 -- Of tables that hold a document's rows, the text is the document's sheet: `sheet-is`.
 -- Assumes nothing.
-use Prim.Native.Nat.{ℕ, _+_, _*_, _-_, _≤_}
+use Prim.Native.Nat.{ℕ, _+_, _-_}
 use native.Mathlib.Omega.{arith}
 use mathlib.Core.Path.{_≡_, refl, sym, ap, ap₂, _∙_, subst}
 use mathlib.Core.Bool.{Bool, true, false}
 use mathlib.Core.List.{List, [], _∷_, _++_, append-assoc, map}
-use borrow.Author.Tests.{le-ltb, ne-eqb}
+use borrow.Author.Tests.{le-ltb}
 use lib.Dec.{eqb}
-use lib.IntN.{pos, negsuc}
 use lib.ListN.{length, getD, drop, replicate, length-append}
 use lib.Seq.{getD-drop, drop-drop, drop-at}
-use Rattle.meaning.specs.Places.{Plain, null, bool, integer, string, Value, Document}
+use Rattle.meaning.specs.Places.{Value, Document}
 use Rattle.meaning.specs.Members.{All}
 use Rattle.meaning.specs.Valid.{ValidPlain}
 use Rattle.meaning.specs.Load.{marksIn, valuesIn}
@@ -18,24 +17,25 @@ use Rattle.meaning.specs.Sheet.{Spot, inMap, inList, Row, rowsOf, Line, placeLi
 use Rattle.meaning.specs.Sheet.{rowLines, rowsLines, sheetLines, sheet}
 use Rattle.theorems.specs.Accepting.{marks-append, values-append}
 use Rattle.theorems.specs.Sizes.{lines-append}
-use Rattle.readers.specs.Words.{pack, wordsOf}
-use Rattle.writers.specs.declared.Kind.the-variants.{String}
+use Rattle.writers.specs.Texts.{texts}
 use Rattle.writers.proofs.Over.{append-none}
+use Rattle.writers.proofs.Runs.{texts-of}
 use Rattle.lines.specs.Rows.{valueOf}
 use Rattle.lines.specs.Spots.{spotOf}
-use Rattle.lines.proofs.Words.{key-back, string-back}
-use Rattle.tables.specs.Words.{bit, side, headWord, mapIn, listIn, spotWords, valueWords, eachValue, marksOf, valuesOf}
+use Rattle.lines.proofs.Words.{key-back, plain-back}
+use Rattle.tables.specs.Words.{bit, side, headWord, mapIn, listIn, spotWords, marksOf}
 use Rattle.tables.specs.Heads.{headIn, keyIn}
 use Rattle.tables.specs.Seek.{further}
 use Rattle.tables.specs.Finds.{GoodSpot, Narrow, AllNarrow, bit-small, side-small, depth-in, side-in, marks-in, values-in, after}
 use Rattle.tables.specs.Standing.{first, behind}
-use Rattle.tables.specs.Holding.{marksRoom, valuesRoom, Holds, four}
+use Rattle.tables.specs.Holding.{marksRoom, Holds, four}
 use Rattle.tables.specs.Parts.{At, at-behind, behind-at, holds-narrow, all-narrow-right}
-use Rattle.tables.specs.Parts.{plain-six, marks-length, values-length, marks-parts, values-parts}
+use Rattle.tables.specs.Parts.{marks-length, marks-parts}
+use Rattle.tables.specs.Values.{ValuesStand, value-first, value-next, values-stand}
 use Rattle.tables.specs.Stands.{head-at, key-at}
 use Rattle.tables.specs.declared.Counts.{Counts}
 use Rattle.tables.specs.declared.Position.{Position}
-use Rattle.sheet.specs.Texts.{kindIn, spotIn, placeText, valueAt, valueText, markText, texts}
+use Rattle.sheet.specs.Texts.{spotIn, placeText, valueText, markText}
 use Rattle.sheet.specs.Texts.{marksText, valuesText, headAt, rowText, rowsText, sheetText}
 use Rattle.sheet.specs.Saving.{ValidRow}
 use Rattle.sheet.proofs.Rows.{row-text}
@@ -50,19 +50,16 @@ module _ {S A : Type 0} (piece : S → List ℕ) (on : S → S) (lines : A → L
   all-lines : many [] ≡ [] → ((a : A) (xs : List A) → many (a ∷ xs) ≡ lines a ++ many xs)
       → ((s : S) (a : A) (xs : List A) → Stands s (a ∷ xs) → (piece s ≡ linesText (lines a)) × Stands (on s) xs)
       → (s : S) (xs : List A) → Stands s xs → texts piece on s (length xs) ≡ linesText (many xs)
-  unfolding texts linesText
-  all-lines e f step s [] h = ap linesText (sym e)
-  all-lines e f step s (a ∷ xs) h =
-      let x = step s a xs h in
-      ap₂ (λ t u. t ++ u) (x .0) (all-lines e f step (on s) xs (x .1))
-      ∙ (sym (lines-append (lines a) (many xs)) ∙ ap linesText (sym (f a xs)))
+  unfolding linesText
+  all-lines e f =
+      texts-of piece on (λ a. linesText (lines a)) (λ xs. linesText (many xs)) Stands (ap linesText e)
+      (λ a xs. ap linesText (f a xs) ∙ lines-append (lines a) (many xs))
 
 -- what stands at a place of a table
-at-place : (table rest : List ℕ) (i j : ℕ) → drop i table ≡ rest → getD table (i + j) 0 ≡ getD rest j 0
-at-place table rest i j h = sym (getD-drop i table j 0) ∙ ap (λ l. getD l j 0) h
-
 at-first : (table rest : List ℕ) (i : ℕ) → drop i table ≡ rest → getD table i 0 ≡ getD rest 0 0
-at-first table rest i h = let e : i ≡ i + 0 = omega arith in ap (λ j. getD table j 0) e ∙ at-place table rest i 0 h
+at-first table rest i h =
+    let e : i ≡ i + 0 = omega arith in
+    ap (λ j. getD table j 0) e ∙ (sym (getD-drop i table 0 0) ∙ ap (λ l. getD l 0 0) h)
 
 -- Marks.
 module _ (table later : List ℕ) where
@@ -75,65 +72,18 @@ module _ (table later : List ℕ) where
       ))
 
 -- Values.
-string-kind : (n m : ℕ) → n ≤ 32 → kindIn (5 + n) m ≡ String n
-unfolding kindIn
-string-kind n m h =
-    let a : 5 + n ≡ 1 → ⊥ = λ e. omega arith in
-    let b : 5 + n ≡ 2 → ⊥ = λ e. omega arith in
-    let d : 5 + n ≡ 3 → ⊥ = λ e. omega arith in
-    let f : 5 + n ≡ 4 → ⊥ = λ e. omega arith in
-    let l : 5 + n - 5 ≡ n = omega arith in
-    rw (
-      ne-eqb (5 + n) 1 a,
-      ne-eqb (5 + n) 2 b,
-      ne-eqb (5 + n) 3 d,
-      ne-eqb (5 + n) 4 f,
-      le-ltb (5 + n) 5 (omega arith),
-      le-ltb 37 (5 + n) (omega arith),
-      l,
-    )
-
--- the value that six words hold
-abbrev held : List ℕ → Value
-held w =
-    valueOf (getD w 0 0) (kindIn (getD w 1 0) (getD w 2 0)) (getD w 2 0 ∷ getD w 3 0 ∷ getD w 4 0 ∷ getD w 5 0 ∷ [])
-
-held-back : (id : ℕ) (x : Plain) (rest : List ℕ) → ValidPlain x
-    → held (valueWords (record { id = id; val = x }) ++ rest) ≡ record { id = id; val = x }
-unfolding kindIn wordsOf
-held-back id null rest h = refl
-held-back id (bool true) rest h = refl
-held-back id (bool false) rest h = refl
-held-back id (integer (pos n)) rest h = rw (le-ltb 9223372036854775807 n h)
-held-back id (integer (negsuc n)) rest h = rw (le-ltb 9223372036854775807 n h)
-held-back id (string b) rest h =
-    ap (λ k. valueOf id k (wordsOf 4 b)) (string-kind (length b) (pack 8 b) (h .short))
-    ∙ ap (λ l. record { id = id; val = string l }) (string-back b h)
-
-module _ (table later : List ℕ) where
-  value-held : (i : ℕ) (rest : List ℕ) → drop (6 * i) table ≡ rest → valueAt table i ≡ held rest
-  unfolding valueAt
-  value-held i rest h =
-      let p : (j : ℕ) → getD table (6 * i + j) 0 ≡ getD rest j 0 = λ j. at-place table rest (6 * i) j h in
-      rw (at-first table rest (6 * i) h, p 1, p 2, p 3, p 4, p 5)
-
+module _ (table : List ℕ) where
   Valued : ℕ → List Value → Type 0
-  Valued i vs = (drop (6 * i) table ≡ eachValue vs ++ later) × All (λ v. ValidPlain (v .val)) vs
+  Valued i vs = ValuesStand table i vs × All (λ v. ValidPlain (v .val)) vs
 
   values-lines : (i : ℕ) (vs : List Value) → Valued i vs → valuesText table i (length vs) ≡ linesText (map valueLine vs)
-  unfolding Valued eachValue
+  unfolding Valued
   values-lines =
       all-lines (valueText table) (λ i. i + 1) (λ v. valueLine v ∷ []) (map valueLine) Valued refl (λ v vs. refl)
-      (λ i v vs h.
-      let e = h .0 ∙ append-assoc (valueWords v) (eachValue vs) later in
-      let f : 6 * i + 6 ≡ 6 * (i + 1) = omega arith in (
-        ap (λ v. lineText (valueLine v)) (value-held i _ e ∙ held-back (v .id) (v .val) (eachValue vs ++ later) (h .1 .0))
-            ∙ sym (one-line (valueLine v)),
-        (
-          ap (λ n. drop n table) (sym f) ∙ (sym (drop-drop 6 (6 * i) table)
-              ∙ (ap (drop 6) e ∙ drop-at (valueWords v) (eachValue vs ++ later) 6 (omega (arith, plain-six (v .val))))),
-          h .1 .1,
-        ),
+      (λ i v vs h. (
+        ap (λ t. lineText (valueLine (valueOf (t .id) (t .kind) (t .words)))) (value-first (h .0))
+            ∙ (ap (λ x. lineText (valueLine (record { id = v .id; val = x }))) (plain-back (v .val) (h .1 .0)) ∙ sym (one-line (valueLine v))),
+        (value-next (h .0), h .1 .1),
       ))
 
 -- Places.
@@ -199,14 +149,7 @@ module _ (h k m v : List ℕ) (c : Counts) where
 
     values-are : valuesText v (s .value) (length (r .values)) ≡ linesText (map valueLine (r .values))
     unfolding Valued
-    values-are =
-        let z : List ℕ = replicate (valuesRoom - length (valuesOf (A ++ r ∷ R))) 0 in
-        values-lines v (valuesOf R ++ z) (s .value) (r .values) (
-          ap (drop (6 * s .value)) (st .holds .values ∙ values-parts A r R z)
-              ∙ drop-at (valuesOf A) (eachValue (r .values) ++ (valuesOf R ++ z)) (6 * s .value)
-              (omega (arith, values-length A, at .value)),
-          st .valid .0,
-        )
+    values-are = values-lines v (s .value) (r .values) (rw (at .value) (values-stand h k m v c A R r (st .holds)), st .valid .0)
 
     row-is : rowText (four h k m v) s ≡ linesText (rowLines r)
     unfolding rowLines linesText

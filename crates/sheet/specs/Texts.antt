@@ -2,35 +2,24 @@
 -- value six words. Behind a table's end its words count as 0, a kind that is none as null, a key that is too long as the empty one.
 -- specs/Saving.antt says that of tables that hold a document's rows this is the document's sheet.
 -- Assumes nothing: these are definitions.
-use Prim.Native.Nat.{ℕ, zero, suc, _+_, _*_, _-_, _≤_, _<_}
+use Prim.Native.Nat.{ℕ, _+_, _*_, _≤_, _<_}
 use mathlib.Core.Bool.{cond}
-use mathlib.Core.List.{List, [], _∷_, _++_}
+use mathlib.Core.List.{List, _++_}
 use lib.Dec.{ltb, eqb}
 use lib.ListN.{getD}
-use Rattle.meaning.specs.Places.{Value}
 use Rattle.meaning.specs.Sheet.{lineText, sheetLine, seenLine, placeLine, markLine, valueLine, endLine}
-use Rattle.writers.specs.declared.Kind.{Kind}
-use Rattle.writers.specs.declared.Kind.the-variants.{Null, True, False, NonNeg, Neg, String}
+use Rattle.writers.specs.Texts.{texts}
 use Rattle.lines.specs.Rows.{valueOf}
 use Rattle.lines.specs.Spots.{spotOf}
 use Rattle.lines.specs.declared.Spot.{Spot}
 use Rattle.lines.specs.declared.Spot.the-variants.{Key, Element}
 use Rattle.tables.specs.Words.{marksAt, valuesAt, Tables}
-use Rattle.tables.specs.Heads.{headIn, keyAt}
+use Rattle.tables.specs.Heads.{headIn, keyAt, valueAt}
 use Rattle.readers.specs.declared.Key.{Key as KeyWords}
 use Rattle.tables.specs.Seek.{further}
 use Rattle.tables.specs.Standing.{first}
 use Rattle.tables.specs.declared.Head.{Head}
 use Rattle.tables.specs.declared.Position.{Position}
-
--- the kind of a value by its word, and by the number that it is
-unfoldable pub kindIn : ℕ → ℕ → Kind
-kindIn k n =
-    cond (eqb k 1) True
-    (cond (eqb k 2) False
-    (cond (eqb k 3) (cond (ltb 9223372036854775807 n) Null (NonNeg n))
-    (cond (eqb k 4) (cond (ltb 9223372036854775807 n) Null (Neg n))
-    (cond (ltb k 5) Null (cond (ltb 37 k) Null (String (k - 5)))))))
 
 -- where a row hangs, by its side and its key's words
 unfoldable pub spotIn : ℕ → KeyWords → Spot
@@ -40,24 +29,12 @@ spotIn s k = cond (eqb s 1) (Element (k .hi)) (cond (ltb 16 (k .len)) (Key (k .h
 unfoldable pub placeText : Head → List ℕ → ℕ → List ℕ
 placeText h keys n = lineText (placeLine (h .depth) (spotOf (spotIn (h .side) (keyAt keys n))) (h .map) (h .list))
 
--- value i, and its line
-abbrev pub fourAt : List ℕ → ℕ → List ℕ
-fourAt values a = getD values (a + 2) 0 ∷ getD values (a + 3) 0 ∷ getD values (a + 4) 0 ∷ getD values (a + 5) 0 ∷ []
-
-unfoldable pub valueAt : List ℕ → ℕ → Value
-valueAt values i =
-    valueOf (getD values (6 * i) 0) (kindIn (getD values (6 * i + 1) 0) (getD values (6 * i + 2) 0)) (fourAt values (6 * i))
-
+-- the line of value i
 abbrev pub valueText : List ℕ → ℕ → List ℕ
-valueText values i = lineText (valueLine (valueAt values i))
+valueText values i = lineText (valueLine (valueOf (valueAt values i .id) (valueAt values i .kind) (valueAt values i .words)))
 
 abbrev pub markText : List ℕ → ℕ → List ℕ
 markText marks i = lineText (markLine (getD marks i 0))
-
--- n texts, one behind the other: the one at s, then from the next on
-unfoldable pub texts : {S : Type 0} → (S → List ℕ) → (S → S) → S → ℕ → List ℕ
-texts piece next s zero = []
-texts piece next s (suc n) = piece s ++ texts piece next (next s) n
 
 -- the lines of n marks, of n values, from one on
 abbrev pub marksText : List ℕ → ℕ → ℕ → List ℕ

@@ -7,49 +7,16 @@ use lines::value_line_size;
 use tables::Head;
 use tables::LIST;
 use tables::key_at;
-use tables::word;
-use writers::Kind;
+use tables::value_at;
 ghost use mathlib.Core.Path.{_≡_};
 ghost use Prim.Native.Nat.{_≤_, _<_};
 ghost use lib.ListN.{length};
 ghost use Rattle.decimal.specs.Powers.{powersOfTen};
 ghost use Rattle.decimal.specs.Take.{Wrote};
-ghost use Rattle.writers.specs.Held.{InBounds};
 ghost use Rattle.writers.specs.Sized.{Sized};
 ghost use Rattle.lines.specs.Spots.{ShortKey};
 ghost use Rattle.tables.specs.Holding.{headsRoom};
-ghost use Rattle.sheet.specs.Texts.{kindIn, spotIn, placeText, valueText};
-
-// The kind of a value by its word, and by the number that it is.
-fn kind_of(kind: u64, n: u64) -> Kind
-    ensures { λ r. ⌜ (r ≡ kindIn kind n) × InBounds r ⌝ }
-{
-    if kind == 1 {
-        return Kind::True;
-    }
-    if kind == 2 {
-        return Kind::False;
-    }
-    if kind == 3 {
-        if 9223372036854775807 < n {
-            return Kind::Null;
-        }
-        return Kind::NonNeg(n);
-    }
-    if kind == 4 {
-        if 9223372036854775807 < n {
-            return Kind::Null;
-        }
-        return Kind::Neg(n);
-    }
-    if kind < 5 {
-        return Kind::Null;
-    }
-    if 37 < kind {
-        return Kind::Null;
-    }
-    Kind::String(kind - 5)
-}
+ghost use Rattle.sheet.specs.Texts.{spotIn, placeText, valueText};
 
 // Where a row hangs, by its side and its key's words.
 fn spot_of(side: u64, hi: u64, lo: u64, len: u64) -> Spot
@@ -90,30 +57,16 @@ pub fn value_size(values: &[u64], i: usize, powers: &[u64; 20]) -> usize
     requires { ⌜ (now powers ≡ powersOfTen) × (i < 1000000) ⌝ }
     ensures { λ r. ⌜ Sized (valueText (now (values .entry)) i) 114 r ⌝ }
 {
-    let a = 6 * i;
-    let n = word(values, a + 2);
-    let kind = kind_of(word(values, a + 1), n);
-    let words = [
-        n,
-        word(values, a + 3),
-        word(values, a + 4),
-        word(values, a + 5),
-    ];
-    value_line_size(word(values, a), kind, words, powers)
+    let v = value_at(values, i);
+    let words = v.words;
+    value_line_size(v.id, v.kind, words, powers)
 }
 
 pub fn put_value(buf: &mut [u8], values: &[u64], i: usize, powers: &[u64; 20]) -> usize
     requires { ⌜ (now powers ≡ powersOfTen) × (i < 1000000) × (length (valueText (now values) i) ≤ length (now buf)) ⌝ }
     ensures { λ r. ⌜ Wrote (valueText (now (values .entry)) i) (now (buf .entry)) (now (buf .exit)) r ⌝ }
 {
-    let a = 6 * i;
-    let n = word(values, a + 2);
-    let kind = kind_of(word(values, a + 1), n);
-    let words = [
-        n,
-        word(values, a + 3),
-        word(values, a + 4),
-        word(values, a + 5),
-    ];
-    put_value_line(buf, word(values, a), kind, words, powers)
+    let v = value_at(values, i);
+    let words = v.words;
+    put_value_line(buf, v.id, v.kind, words, powers)
 }

@@ -1,15 +1,16 @@
--- What the words of a row say: its head, and its key; and a head's word written anew. The crates above speak of `Head` and `Key`, and write
--- heads by these functions only. What they write in tables that hold rows says specs/Rewritten.
+-- What the words of a row say: its head, its key, its values; and a head's word written anew. The crates above speak of `Head`, `Key` and
+-- `Value`, and write heads by these functions only. What they write in tables that hold rows says specs/Rewritten.
 -- Assumes nothing: these are definitions.
 use Prim.Native.Nat.{ℕ, _+_, _*_, _-_, _%_}
 use mathlib.Core.Path.{_≡_, ap}
 use mathlib.Core.Bool.{Bool, true, false}
-use mathlib.Core.List.{List}
+use mathlib.Core.List.{List, [], _∷_}
 use lib.Dec.{eqb}
 use lib.ListN.{getD}
 use Rattle.readers.specs.declared.Key.{Key}
 use Rattle.tables.specs.Words.{depthIn, sideIn, mapIn, listIn, marksAt, valuesAt}
 use Rattle.tables.specs.declared.Head.{Head}
+use Rattle.tables.specs.declared.Value.{Value}
 
 abbrev pub headIn : ℕ → Head
 headIn h = record {
@@ -56,3 +57,11 @@ keyIn ks = record { hi = getD ks 0 0; lo = getD ks 1 0; len = getD ks 2 0 }
 -- the key of row n
 abbrev pub keyAt : List ℕ → ℕ → Key
 keyAt keys n = record { hi = getD keys (3 * n) 0; lo = getD keys (3 * n + 1) 0; len = getD keys (3 * n + 2) 0 }
+
+-- value n of the table
+abbrev pub valueAt : List ℕ → ℕ → Value
+valueAt values n = record {
+  id = getD values (6 * n) 0;
+  kind = getD values (6 * n + 1) 0;
+  words = getD values (6 * n + 2) 0 ∷ getD values (6 * n + 3) 0 ∷ getD values (6 * n + 4) 0 ∷ getD values (6 * n + 5) 0 ∷ [];
+}

@@ -12,7 +12,8 @@ use Rattle.meaning.specs.Members.{All}
 use Rattle.meaning.specs.Load.{marksIn, valuesIn}
 use Rattle.meaning.specs.Sheet.{Row}
 use Rattle.words.proofs.Padded.{pad-length}
-use Rattle.tables.specs.Words.{valueWords, plainWords, eachValue, headWord, Tables}
+use Rattle.readers.specs.Words.{plainWords}
+use Rattle.tables.specs.Words.{valueWords, eachValue, headWord, Tables}
 use Rattle.tables.specs.Words.{headsOf, keysOf, marksOf, valuesOf}
 use Rattle.tables.specs.Finds.{AllNarrow, nextRow, after}
 use Rattle.tables.specs.Standing.{first, behind, heads-append, heads-length, keys-length}

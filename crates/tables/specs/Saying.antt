@@ -11,9 +11,9 @@ use Rattle.meaning.specs.Places.{Plain, null, bool, integer, string, Value}
 use Rattle.meaning.specs.Members.{All}
 use Rattle.meaning.specs.Valid.{Bytes, ValidPlain}
 use Rattle.theorems.specs.Decide.{Tri, less, same, more, tri}
-use Rattle.readers.specs.Words.{weight, pack, wordsOf}
+use Rattle.readers.specs.Words.{weight, pack, wordsOf, plainWords}
 use Rattle.readers.specs.Order.{step-up, pack-small, bytes-drop}
-use Rattle.tables.specs.Words.{plainWords, valueWords, eachValue}
+use Rattle.tables.specs.Words.{valueWords, eachValue}
 use Rattle.tables.specs.Parts.{plain-six}
 
 -- words in front that are as many are the same, and so are the words behind

@@ -7,12 +7,11 @@
 use Prim.Native.Nat.{ℕ, _+_, _*_, _/_, _%_}
 use mathlib.Core.Bool.{Bool, true, false}
 use mathlib.Core.List.{List, [], _∷_, _++_}
-use lib.IntN.{pos, negsuc}
 use lib.ListN.{length}
-use Rattle.meaning.specs.Places.{Plain, null, bool, integer, string, Value}
+use Rattle.meaning.specs.Places.{Value}
 use Rattle.meaning.specs.Sheet.{Spot, inMap, inList, Row}
 use Rattle.words.specs.Words as words
-use Rattle.readers.specs.Words.{wordsOf, keyWords}
+use Rattle.readers.specs.Words.{keyWords, plainWords}
 
 abbrev pub bit : Bool → ℕ
 bit true = 1
@@ -51,15 +50,7 @@ abbrev pub spotWords : Spot → List ℕ
 spotWords (inMap k) = keyWords k
 spotWords (inList i) = i ∷ 0 ∷ 17 ∷ []
 
--- a plain value: its kind, and four words
-abbrev pub plainWords : Plain → List ℕ
-plainWords null = 0 ∷ 0 ∷ 0 ∷ 0 ∷ 0 ∷ []
-plainWords (bool true) = 1 ∷ 0 ∷ 0 ∷ 0 ∷ 0 ∷ []
-plainWords (bool false) = 2 ∷ 0 ∷ 0 ∷ 0 ∷ 0 ∷ []
-plainWords (integer (pos n)) = 3 ∷ n ∷ 0 ∷ 0 ∷ 0 ∷ []
-plainWords (integer (negsuc n)) = 4 ∷ n ∷ 0 ∷ 0 ∷ 0 ∷ []
-plainWords (string b) = (5 + length b) ∷ wordsOf 4 b
-
+-- a value: its id, and the words of the plain value
 abbrev pub valueWords : Value → List ℕ
 valueWords v = v .id ∷ plainWords (v .val)
 

@@ -8,7 +8,7 @@ ghost use Prim.Native.Nat.{_+_, _*_, _-_, _≤_, _<_};
 ghost use lib.ListN.{length, getD};
 ghost use Rattle.tables.specs.Seek.{turn, turnNumber, passesOne, goesOver, isSought, Passes, Searches, holdsIf, sought};
 ghost use Rattle.tables.specs.Words.{marksAt};
-ghost use Rattle.tables.specs.Heads.{headIn, newHead, withFlag, withMark, withCounts, keyAt};
+ghost use Rattle.tables.specs.Heads.{headIn, newHead, withFlag, withMark, withCounts, keyAt, valueAt};
 ghost use Rattle.tables.specs.Holding.{withinTables};
 ghost use Rattle.tables.specs.Wants.{searchOf};
 ghost use Rattle.tables.specs.Stands.{FindsIn, Knows};
@@ -52,6 +52,13 @@ pub struct Head {
 pub const MAP: u64 = 0;
 
 pub const LIST: u64 = 1;
+
+// A value of a row, as the table holds it: its id, the number of its kind, and four words.
+pub struct Value {
+    pub id: u64,
+    pub kind: u64,
+    pub words: [u64; 4],
+}
 
 // How many rows, marks and values the tables hold.
 pub struct Counts {
@@ -168,6 +175,24 @@ pub fn key_at(keys: &[u64], row: usize) -> Key
         hi: word(keys, at),
         lo: word(keys, at + 1),
         len: word(keys, at + 2),
+    }
+}
+
+// A value of the table; behind the table's end that of six words 0.
+pub fn value_at(values: &[u64], i: usize) -> Value
+    requires { ⌜ i < 1048576 ⌝ }
+    ensures { λ r. ⌜ r ≡ valueAt (now (values .entry)) i ⌝ }
+{
+    let at = 6 * i;
+    Value {
+        id: word(values, at),
+        kind: word(values, at + 1),
+        words: [
+            word(values, at + 2),
+            word(values, at + 3),
+            word(values, at + 4),
+            word(values, at + 5),
+        ],
     }
 }
 

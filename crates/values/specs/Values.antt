@@ -12,7 +12,7 @@ use Rattle.meaning.specs.Members.{Has, idOfValue}
 use Rattle.meaning.specs.Places.{Plain, Value}
 use Rattle.meaning.specs.Sheet.{Row}
 use Rattle.rows.specs.Blocks.{dropRow, addRow}
-use Rattle.tables.specs.Words.{plainWords}
+use Rattle.readers.specs.Words.{plainWords}
 use Rattle.tables.specs.Standing.{behind}
 use Rattle.tables.specs.Holding.{Holds, four}
 use Rattle.tables.specs.declared.Counts.{Counts}

@@ -2,5 +2,6 @@
 pub mod Over
 pub mod Hex
 pub mod Texts
+pub mod Runs
 pub mod Commas
 pub mod Plain

@@ -14,7 +14,7 @@ ghost use Rattle.decimal.specs.Powers.{powersOfTen};
 ghost use Rattle.writers.specs.Wrote.{WroteAt};
 ghost use Rattle.writers.specs.Sized.{Sized};
 ghost use Rattle.writers.specs.Words.{byteOf, bytesOf};
-ghost use Rattle.writers.specs.Held.{plainOf, InBounds};
+ghost use Rattle.writers.specs.Held.{kindIn, plainOf, plainIn, InBounds};
 
 // A plain value as the tables hold it; a string's bytes stand in four words beside it, and this is how many they are. `NonNeg n` is n, and
 // `Neg n` is -(n + 1).
@@ -136,8 +136,39 @@ pub fn counters_size(counters: Counters, powers: &[u64; 20]) -> usize
     n
 }
 
-// Writes a plain value.
-pub fn put_plain(buf: &mut [u8], kind: Kind, words: [u64; 4], powers: &[u64; 20]) -> usize
+// The kind of a plain value by its number, and by the first of its words, which is an integer's. A number that is no kind's counts as null.
+fn kind_of(kind: u64, n: u64) -> Kind
+    ensures { λ r. ⌜ (r ≡ kindIn kind n) × InBounds r ⌝ }
+{
+    if kind == 1 {
+        return Kind::True;
+    }
+    if kind == 2 {
+        return Kind::False;
+    }
+    if kind == 3 {
+        if 9223372036854775807 < n {
+            return Kind::Null;
+        }
+        return Kind::NonNeg(n);
+    }
+    if kind == 4 {
+        if 9223372036854775807 < n {
+            return Kind::Null;
+        }
+        return Kind::Neg(n);
+    }
+    if kind < 5 {
+        return Kind::Null;
+    }
+    if 37 < kind {
+        return Kind::Null;
+    }
+    Kind::String(kind - 5)
+}
+
+// Writes a plain value of a kind.
+fn put_kind(buf: &mut [u8], kind: Kind, words: [u64; 4], powers: &[u64; 20]) -> usize
     requires { ⌜ (now powers ≡ powersOfTen) × InBounds kind × (length (plainText (plainOf kind words)) ≤ length (now buf)) ⌝ }
     ensures { λ r. ⌜ Wrote (plainText (plainOf kind words)) (now (buf .entry)) (now (buf .exit)) r ⌝ }
 {
@@ -161,7 +192,7 @@ pub fn put_plain(buf: &mut [u8], kind: Kind, words: [u64; 4], powers: &[u64; 20]
 }
 
 // How many bytes it takes.
-pub fn plain_size(kind: Kind, words: [u64; 4], powers: &[u64; 20]) -> usize
+fn kind_size(kind: Kind, words: [u64; 4], powers: &[u64; 20]) -> usize
     requires { ⌜ (now powers ≡ powersOfTen) × InBounds kind ⌝ }
     ensures { λ r. ⌜ Sized (plainText (plainOf kind words)) 65 r ⌝ }
 {
@@ -173,6 +204,24 @@ pub fn plain_size(kind: Kind, words: [u64; 4], powers: &[u64; 20]) -> usize
         Kind::Neg(n) => 2 + decimal_size(n + 1, powers),
         Kind::String(len) => 1 + 2 * (len as usize),
     }
+}
+
+// Writes a plain value, of the number of its kind and its four words.
+pub fn put_plain(buf: &mut [u8], kind: u64, words: [u64; 4], powers: &[u64; 20]) -> usize
+    requires { ⌜ (now powers ≡ powersOfTen) × (length (plainText (plainIn kind words)) ≤ length (now buf)) ⌝ }
+    ensures { λ r. ⌜ Wrote (plainText (plainIn kind words)) (now (buf .entry)) (now (buf .exit)) r ⌝ }
+{
+    let k = kind_of(kind, words[0]);
+    put_kind(buf, k, words, powers)
+}
+
+// How many bytes it takes.
+pub fn plain_size(kind: u64, words: [u64; 4], powers: &[u64; 20]) -> usize
+    requires { ⌜ now powers ≡ powersOfTen ⌝ }
+    ensures { λ r. ⌜ Sized (plainText (plainIn kind words)) 65 r ⌝ }
+{
+    let k = kind_of(kind, words[0]);
+    kind_size(k, words, powers)
 }
 
 // Going on at the place `at`: the rest of the buffer is lent to the writer, and the answer is the place behind the text.
@@ -215,12 +264,12 @@ pub fn then_counters(buf: &mut [u8], at: usize, counters: Counters, powers: &[u6
 pub fn then_plain(
     buf: &mut [u8],
     at: usize,
-    kind: Kind,
+    kind: u64,
     words: [u64; 4],
     powers: &[u64; 20],
 ) -> usize
-    requires { ⌜ (now powers ≡ powersOfTen) × InBounds kind × (at + length (plainText (plainOf kind words)) ≤ length (now buf)) ⌝ }
-    ensures { λ r. ⌜ WroteAt (plainText (plainOf kind words)) at (now (buf .entry)) (now (buf .exit)) r ⌝ }
+    requires { ⌜ (now powers ≡ powersOfTen) × (at + length (plainText (plainIn kind words)) ≤ length (now buf)) ⌝ }
+    ensures { λ r. ⌜ WroteAt (plainText (plainIn kind words)) at (now (buf .entry)) (now (buf .exit)) r ⌝ }
 {
     at + put_plain(&mut buf[at..], kind, words, powers)
 }

@@ -10,20 +10,20 @@ use Rattle.lines.proofs.put_value_line.Tie as tie
 put-text-requires : tie.Need-put-text-requires
 put-text-requires c κs =
     let at-start = c .before .before .before in
-    first-room (ascii "value=") _ (at-start .args .buf .now) (value-line-text _) (at-start .pre .2)
+    first-room (ascii "value=") _ (at-start .args .buf .now) (value-line-text _) (at-start .pre .1)
 
 then-value-row-requires : tie.Need-then-value-row-requires
 then-value-row-requires c κs =
     let at-put-text = c .before .before .before in
     let at-pre = at-put-text .before .before .before .before in
-    (at-pre .pre .0, at-pre .pre .1, last-room (first (at-put-text .put-text .ensures) (value-line-text _) (at-pre .pre .2)))
+    (at-pre .pre .0, last-room (first (at-put-text .put-text .ensures) (value-line-text _) (at-pre .pre .1)))
 
 returns : tie.Need-returns
 returns c =
     let at-then-value-row = c .before .before in
     let at-put-text = at-then-value-row .before .before .before .before in
     let at-pre = at-put-text .before .before .before .before in
-    last (at-then-value-row .then-value-row .ensures) (first (at-put-text .put-text .ensures) (value-line-text _) (at-pre .pre .2))
+    last (at-then-value-row .then-value-row .ensures) (first (at-put-text .put-text .ensures) (value-line-text _) (at-pre .pre .1))
 
 pub put-value-line-spec : {M : Type 1} → statement M
 put-value-line-spec =

@@ -12,14 +12,14 @@ put-id-requires : tie.Need-put-id-requires
 put-id-requires c κs = (
   c .before .before .pre .0,
   first-room (idText _) _ (c .before .before .args .buf .now) (value-text _)
-      (c .before .before .pre .2),
+      (c .before .before .pre .1),
 )
 
 then-text-requires : tie.Need-then-text-requires
 then-text-requires c κs =
     let at-put-id = c .before .before .before .before in
     let at-pre = at-put-id .before .before .before in
-    room (ascii ":") _ (first (at-put-id .put-id .ensures) (value-text _) (at-pre .pre .2))
+    room (ascii ":") _ (first (at-put-id .put-id .ensures) (value-text _) (at-pre .pre .1))
 
 then-plain-requires : tie.Need-then-plain-requires
 then-plain-requires c κs =
@@ -27,9 +27,8 @@ then-plain-requires c κs =
     let at-put-id = at-then-text .before .before .before .before .before in
     let at-pre = at-put-id .before .before .before in (
       at-pre .pre .0,
-      at-pre .pre .1,
       room (plainText _) _
-          (next (at-then-text .then-text .ensures) _ (first (at-put-id .put-id .ensures) (value-text _) (at-pre .pre .2))),
+          (next (at-then-text .then-text .ensures) _ (first (at-put-id .put-id .ensures) (value-text _) (at-pre .pre .1))),
     )
 
 then-text-requires-2 : tie.Need-then-text-requires-2
@@ -39,7 +38,7 @@ then-text-requires-2 c κs =
     let at-put-id = at-then-text .before .before .before .before .before in
     let at-pre = at-put-id .before .before .before in
     last-room (next (at-then-plain .then-plain .ensures) _
-    (next (at-then-text .then-text .ensures) _ (first (at-put-id .put-id .ensures) (value-text _) (at-pre .pre .2))))
+    (next (at-then-text .then-text .ensures) _ (first (at-put-id .put-id .ensures) (value-text _) (at-pre .pre .1))))
 
 returns : tie.Need-returns
 returns c =
@@ -50,7 +49,7 @@ returns c =
     let at-pre = at-put-id .before .before .before in
     last (at-then-text2 .then-text2 .ensures)
     (next (at-then-plain .then-plain .ensures) _
-    (next (at-then-text .then-text .ensures) _ (first (at-put-id .put-id .ensures) (value-text _) (at-pre .pre .2))))
+    (next (at-then-text .then-text .ensures) _ (first (at-put-id .put-id .ensures) (value-text _) (at-pre .pre .1))))
 
 pub put-value-row-spec : {M : Type 1} → statement M
 put-value-row-spec =

@@ -9,7 +9,7 @@ returns : tie.Need-returns
 returns c =
     let at-put-value-row = c .before .before in
     let at-pre = at-put-value-row .before .before .before in
-    came-back _ _ _ (at-pre .pre .2) (at-put-value-row .put-value-row .ensures)
+    came-back _ _ _ (at-pre .pre .1) (at-put-value-row .put-value-row .ensures)
 
 pub then-value-row-spec : {M : Type 1} → statement M
 then-value-row-spec =

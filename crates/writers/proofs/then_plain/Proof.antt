@@ -9,7 +9,7 @@ returns : tie.Need-returns
 returns c =
     let at-put-plain = c .before .before in
     let at-pre = at-put-plain .before .before .before in
-    came-back _ _ _ (at-pre .pre .2) (at-put-plain .put-plain .ensures)
+    came-back _ _ _ (at-pre .pre .1) (at-put-plain .put-plain .ensures)
 
 pub then-plain-spec : {M : Type 1} → statement M
 then-plain-spec =

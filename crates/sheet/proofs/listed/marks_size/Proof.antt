@@ -3,7 +3,7 @@
 use Prim.Native.Nat.{_+_, _*_}
 use native.Mathlib.Omega.{arith}
 use mathlib.Core.Path.{_≡_, refl, ap}
-use Rattle.sheet.proofs.Runs.{sized-as, Summing, sum-begun, sum-more, sum-all}
+use Rattle.writers.proofs.Runs.{sized-as, Summing, sum-begun, sum-more, sum-all}
 use Rattle.sheet.specs.Texts.{marksText, markText}
 use Rattle.meaning.specs.Sheet.{lineText, markLine}
 use borrow.Author.Needs.{needs}

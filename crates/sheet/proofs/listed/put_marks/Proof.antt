@@ -4,7 +4,7 @@ use Prim.Native.Nat.{_+_}
 use native.Mathlib.Omega.{arith}
 use mathlib.Core.Path.{_≡_, refl, ap}
 use Rattle.writers.proofs.Over.{Writing, last-room, same-long, wrote-as}
-use Rattle.sheet.proofs.Runs.{begun, write-room, write-fits, write-more, write-all}
+use Rattle.writers.proofs.Runs.{begun, write-room, write-fits, write-more, write-all}
 use Rattle.sheet.specs.Texts.{marksText, markText}
 use Rattle.meaning.specs.Sheet.{lineText, markLine}
 use borrow.Author.Needs.{needs}

@@ -8,7 +8,7 @@ use Rattle.tables.specs.Seek.{further}
 use Rattle.sheet.proofs.Rows.{Going, going-first, near, few, going-on}
 use Rattle.sheet.specs.Texts.{headAt, rowText, rowsText}
 use Rattle.writers.proofs.Over.{Writing, last-room, same-long}
-use Rattle.sheet.proofs.Runs.{begun, write-room, write-fits, write-more, write-all}
+use Rattle.writers.proofs.Runs.{begun, write-room, write-fits, write-more, write-all}
 use Rattle.sheet.proofs.listed.put_rows.Statement.{statement}
 use Rattle.sheet.proofs.listed.put_rows.Tie as tie
 

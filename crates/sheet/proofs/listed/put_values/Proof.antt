@@ -4,7 +4,7 @@ use Prim.Native.Nat.{_+_}
 use native.Mathlib.Omega.{arith}
 use mathlib.Core.Path.{_≡_, refl}
 use Rattle.writers.proofs.Over.{Writing, last-room, same-long}
-use Rattle.sheet.proofs.Runs.{begun, write-room, write-fits, write-more, write-all}
+use Rattle.writers.proofs.Runs.{begun, write-room, write-fits, write-more, write-all}
 use Rattle.sheet.specs.Texts.{valuesText, valueText}
 use Rattle.sheet.proofs.listed.put_values.Statement.{statement}
 use Rattle.sheet.proofs.listed.put_values.Tie as tie

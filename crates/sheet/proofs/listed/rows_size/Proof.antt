@@ -8,7 +8,7 @@ use Rattle.tables.specs.Standing.{first}
 use Rattle.tables.specs.Seek.{further}
 use Rattle.sheet.proofs.Rows.{Going, going-first, near, few, going-on}
 use Rattle.sheet.specs.Texts.{headAt, rowText, rowsText}
-use Rattle.sheet.proofs.Runs.{Summing, sum-begun, sum-more, sum-all}
+use Rattle.writers.proofs.Runs.{Summing, sum-begun, sum-more, sum-all}
 use Rattle.sheet.proofs.listed.rows_size.Statement.{statement}
 use Rattle.sheet.proofs.listed.rows_size.Tie as tie
 

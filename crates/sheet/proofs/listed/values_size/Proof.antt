@@ -3,7 +3,7 @@
 use Prim.Native.Nat.{_+_, _*_}
 use native.Mathlib.Omega.{arith}
 use mathlib.Core.Path.{_≡_, refl}
-use Rattle.sheet.proofs.Runs.{Summing, sum-begun, sum-more, sum-all}
+use Rattle.writers.proofs.Runs.{Summing, sum-begun, sum-more, sum-all}
 use Rattle.sheet.specs.Texts.{valuesText, valueText}
 use Rattle.sheet.proofs.listed.values_size.Statement.{statement}
 use Rattle.sheet.proofs.listed.values_size.Tie as tie

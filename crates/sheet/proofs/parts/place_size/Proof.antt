@@ -1,6 +1,6 @@
 -- `sheet::parts::place_size` meets its contract.
 -- Assumes nothing.
-use Rattle.sheet.proofs.Runs.{sized-as}
+use Rattle.writers.proofs.Runs.{sized-as}
 use Rattle.sheet.proofs.Rows.{place-here}
 use borrow.Author.Needs.{needs}
 use Rattle.sheet.proofs.parts.place_size.Statement.{statement}
