@@ -10,7 +10,7 @@ use lib.ListN.{length, take, drop, getD, length-append, length-drop}
 use lib.Seq.{take-all}
 use Rattle.meaning.specs.Places.{Place}
 use Rattle.meaning.specs.Judge.{Found, found, unknown}
-use Rattle.meaning.specs.Read.{Trail, here, byKey, byElement, trailSteps, ValidTrail, missing, withoutMarks, present, entered, follow, seek}
+use Rattle.meaning.specs.Read.{Trail, here, byKey, byElement, trailSteps, ValidTrail, missing, entered, follow}
 use Rattle.meaning.specs.Sheet.{Spot, inMap, inList, Row, rowOf, rowsOf}
 use Rattle.meaning.specs.Sheet as Sheet
 use Rattle.rows.specs.Locate.{Located, isLocated, locate, locateKey, locateElement, asBlock}
@@ -18,7 +18,7 @@ use Rattle.rows.specs.Sought.{onward, placeAt, follow-onward, locateSpot, locat
 use Rattle.rows.specs.Sought.{Stands, found-stands, no-block, row-marked, row-unmarked, entered-marked, entered-unmarked}
 use Rattle.readers.specs.Hex.{wordsIn}
 use Rattle.message.specs.Means.{trailWords}
-use Rattle.tables.specs.Words.{spotWords, marksAt}
+use Rattle.tables.specs.Words.{spotWords}
 use Rattle.tables.specs.Heads.{headIn, keyIn, marks-said}
 use Rattle.tables.specs.Finds.{GoodSpot, after}
 use Rattle.tables.specs.Wants.{passOf, meantOf, spot-agrees, spot-tells}
@@ -34,7 +34,7 @@ use Rattle.finder.specs.declared.Followed.{Followed}
 use Rattle.finder.specs.declared.Followed.the-variants as F
 use Rattle.finder.specs.Looks as Looks
 use Rattle.finder.specs.Looks.{Sees, standing, Looks}
-use Rattle.finder.specs.Follows.{StandsHere, Leads, Follows, Under, FollowsUnder}
+use Rattle.finder.specs.Follows.{Leads, Follows, Under, FollowsUnder}
 
 -- The words of a way: those of its first key, and the others.
 
