@@ -18,7 +18,8 @@ use Rattle.lines.proofs.Texts.{values-more}
 use Rattle.lines.proofs.Words.{plain-back}
 use Rattle.tables.specs.Heads.{headIn, valueAt, values-said}
 use Rattle.tables.specs.Finds.{values-in}
-use Rattle.tables.specs.Parts.{at-behind}
+use Rattle.tables.specs.Holding.{four}
+use Rattle.tables.specs.Parts.{at-behind, narrow-at}
 use Rattle.tables.specs.Saying.{ValidValue}
 use Rattle.tables.specs.Stands.{head-at}
 use Rattle.tables.specs.Values.{ValuesStand, value-first, value-next, values-stand}
@@ -27,7 +28,6 @@ use Rattle.tables.specs.declared.Position.{Position}
 use Rattle.tables.specs.declared.Value.{Value}
 use Rattle.listings.specs.Texts.{headOf, valueText, valuesFrom}
 use Rattle.listings.specs.Lists.{Owns}
-use Rattle.listings.proofs.Places.{narrow}
 
 -- the value that was read
 pub value-here : (lead values : List ℕ) (i : ℕ) {v : Value} → v ≡ valueAt values i
@@ -77,7 +77,7 @@ module _ (h v : List ℕ) (at : Position) (p : Place) (o : Owns h v at p) where
   values-are {g} e =
       let A = o .ahead in
       let a = at-behind at A (o .here) in
-      let n = narrow h (o .keys) (o .marks) v (o .counts) A r (o .later) (o .holds) in
+      let n = narrow-at (four h (o .keys) (o .marks) v) (o .counts) A r (o .later) (o .holds) in
       let w = ap (λ i. headOf h i .values) (a .row)
       ∙ (ap (λ w. headIn w .values) (head-at h (o .keys) (o .marks) v (o .counts) A (o .later) r (o .holds)) ∙ values-in r n) in
       ap valuesText (sym (row-values (o .depth) (o .spot) p))

@@ -6,15 +6,14 @@ mod list;
 mod map;
 mod plain;
 
-pub use plain::put_values;
-pub use plain::values_size;
-
 use lines::id_row_size;
 use lines::put_id_row;
 use list::nth_row;
 use map::extent;
 use map::put_keys;
 use meaning::Reading;
+pub use plain::put_values;
+pub use plain::values_size;
 use tables::Position;
 use tables::ROWS_ROOM;
 use tables::VALUES_ROOM;

@@ -29,11 +29,10 @@ use Rattle.listings.proofs.Valued.{Valued, value-is, valued-next}
 use Rattle.tables.specs.Words.{bit, side, headWord, mapIn, listIn, spotWords, marksOf}
 use Rattle.tables.specs.Heads.{headIn, keyIn}
 use Rattle.tables.specs.Seek.{further}
-use Rattle.tables.specs.Finds.{GoodSpot, Narrow, AllNarrow, bit-small, side-small, depth-in, side-in, marks-in, values-in, after}
+use Rattle.tables.specs.Finds.{GoodSpot, Narrow, bit-small, side-small, depth-in, side-in, marks-in, values-in, after}
 use Rattle.tables.specs.Standing.{first, behind}
 use Rattle.tables.specs.Holding.{marksRoom, Holds, four}
-use Rattle.tables.specs.Parts.{At, at-behind, behind-at, holds-narrow, all-narrow-right}
-use Rattle.tables.specs.Parts.{marks-length, marks-parts}
+use Rattle.tables.specs.Parts.{At, at-behind, behind-at, narrow-at, marks-length, marks-parts}
 use Rattle.tables.specs.Values.{values-stand}
 use Rattle.tables.specs.Stands.{head-at, key-at}
 use Rattle.tables.specs.declared.Counts.{Counts}
@@ -114,8 +113,7 @@ module _ (h k m v : List ℕ) (c : Counts) where
     A = st .ahead
 
     narrow : Narrow r
-    unfolding AllNarrow
-    narrow = all-narrow-right A (r ∷ R) (holds-narrow (four h k m v) c (A ++ r ∷ R) (st .holds)) .0
+    narrow = narrow-at (four h k m v) c A r R (st .holds)
 
     at : At s A
     at = at-behind s A (st .here)
