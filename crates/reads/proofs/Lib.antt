@@ -1,5 +1,5 @@
 -- The laws that proofs of `reads` cite, a file a subject.
-pub mod Reached
-pub mod Given
-pub mod Asked
+pub mod Reaches
+pub mod Gives
+pub mod Asks
 pub mod Once

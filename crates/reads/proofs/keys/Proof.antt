@@ -2,7 +2,7 @@
 use mathlib.Core.Path.{sym, _∙_}
 use borrow.Author.Needs.{needs}
 use borrow.Author.Tests.{not-true, not-false}
-use Rattle.reads.proofs.Asked.{too-many, bad-way, keys-room, keys-asked, root-asked}
+use Rattle.reads.proofs.Asks.{too-many, bad-way, keys-room, keys-asked, root-asked}
 use Rattle.reads.proofs.keys.Statement.{statement}
 use Rattle.reads.proofs.keys.Tie as tie
 

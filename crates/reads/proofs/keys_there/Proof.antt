@@ -1,6 +1,6 @@
 -- `reads::keys_there` meets its contract: nothing is there, or what is listed of the place is given. Assumes nothing.
 use borrow.Author.Needs.{needs}
-use Rattle.reads.proofs.Given.{gives-missing, gives-unmarked, gives-keys}
+use Rattle.reads.proofs.Gives.{gives-missing, gives-unmarked, gives-keys}
 use Rattle.reads.proofs.keys_there.Statement.{statement}
 use Rattle.reads.proofs.keys_there.Tie as tie
 

@@ -3,7 +3,7 @@ use borrow.Author.Needs.{needs}
 use native.Mathlib.Omega.{arith}
 use mathlib.Core.Path.{sym}
 use lib.Seq.{length-take-le}
-use Rattle.reads.proofs.Reached.{reaches-none, reaches-cut, reaches}
+use Rattle.reads.proofs.Reaches.{reaches-none, reaches-cut, reaches}
 use Rattle.reads.proofs.place_at.Statement.{statement}
 use Rattle.reads.proofs.place_at.Tie as tie
 

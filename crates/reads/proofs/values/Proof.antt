@@ -2,7 +2,7 @@
 use mathlib.Core.Path.{sym, _∙_}
 use borrow.Author.Needs.{needs}
 use borrow.Author.Tests.{not-true, not-false}
-use Rattle.reads.proofs.Asked.{too-many, bad-way, values-room, values-asked}
+use Rattle.reads.proofs.Asks.{too-many, bad-way, values-room, values-asked}
 use Rattle.reads.proofs.values.Statement.{statement}
 use Rattle.reads.proofs.values.Tie as tie
 
