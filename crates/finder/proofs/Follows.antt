@@ -10,7 +10,7 @@ use lib.ListN.{length, take, drop, getD, length-append, length-drop}
 use lib.Seq.{take-all}
 use Rattle.meaning.specs.Places.{Place}
 use Rattle.meaning.specs.Judge.{Found, found, unknown}
-use Rattle.meaning.specs.Read.{Trail, here, byKey, byElement, trailSteps, ValidTrail, missing, withoutMarks, present, entered, follow, seek}
+use Rattle.meaning.specs.Read.{Trail, here, byKey, byElement, trailSteps, ValidTrail, missing, entered, follow}
 use Rattle.meaning.specs.Sheet.{Spot, inMap, inList, Row, rowOf, rowsOf}
 use Rattle.meaning.specs.Sheet as Sheet
 use Rattle.rows.specs.Locate.{Located, isLocated, locate, locateKey, locateElement, asBlock}
@@ -18,7 +18,7 @@ use Rattle.rows.specs.Sought.{onward, placeAt, follow-onward, locateSpot, locat
 use Rattle.rows.specs.Sought.{Stands, found-stands, no-block, row-marked, row-unmarked, entered-marked, entered-unmarked}
 use Rattle.readers.specs.Hex.{wordsIn}
 use Rattle.message.specs.Means.{trailWords}
-use Rattle.tables.specs.Words.{spotWords, marksAt}
+use Rattle.tables.specs.Words.{spotWords}
 use Rattle.tables.specs.Heads.{headIn, keyIn, marks-said}
 use Rattle.tables.specs.Finds.{GoodSpot, after}
 use Rattle.tables.specs.Wants.{passOf, meantOf, spot-agrees, spot-tells}
@@ -34,7 +34,7 @@ use Rattle.finder.specs.declared.Followed.{Followed}
 use Rattle.finder.specs.declared.Followed.the-variants as F
 use Rattle.finder.specs.Looks as Looks
 use Rattle.finder.specs.Looks.{Sees, standing, Looks}
-use Rattle.finder.specs.Follows.{StandsHere, Leads, Follows, Under, FollowsUnder}
+use Rattle.finder.specs.Follows.{Leads, Follows, OnWay, FollowsUnder}
 
 -- The words of a way: those of its first key, and the others.
 
@@ -75,7 +75,7 @@ module _ (h k : List ℕ) (rows : ℕ) (from : Position) (n : ℕ) (words : List
   follows-deep l rs x p t U = absurd (omega (arith, U .few))
 
   module _ (s : Sight) (look : Looks h k rows from n true (keyIn words) s) where
-    step : (rs : List Row) (x : Place) (p : Spot) (t : Trail) → Under h k rows from n words rs x p t → Steps rs n s p (placeAt p x)
+    step : (rs : List Row) (x : Place) (p : Spot) (t : Trail) → OnWay h k rows from n words rs x p t → Steps rs n s p (placeAt p x)
     step rs x p t U =
         let us = Sheet.rows n x ++ U .back in
         let e = first-words p words (trailWords t) (U .way) in
@@ -96,7 +96,7 @@ module _ (h k : List ℕ) (rows : ℕ) (from : Position) (n : ℕ) (words : List
 
     module _ (there : s .there ≡ true) (head : Head) (said : head ≡ headIn (getD h (s .at .row) 0)) where
       -- the place that was found: its marks are as many as its head says
-      pub record At (rs : List Row) (x : Place) (p : Spot) : Type 0 where
+      record At (rs : List Row) (x : Place) (p : Spot) : Type 0 where
         pub front : List Row
         pub place : Place
         pub is : placeAt p x ≡ found place
@@ -104,7 +104,7 @@ module _ (h k : List ℕ) (rows : ℕ) (from : Position) (n : ℕ) (words : List
         pub stands : Stands rs front n p place
         pub marks : head .marks ≡ length (rowOf n p place .marks)
 
-      at : (rs : List Row) (x : Place) (p : Spot) (t : Trail) → Under h k rows from n words rs x p t → At rs x p
+      at : (rs : List Row) (x : Place) (p : Spot) (t : Trail) → OnWay h k rows from n words rs x p t → At rs x p
       at rs x p t U = go (step rs x p t U)
         where
           go : Steps rs n s p (placeAt p x) → At rs x p
@@ -153,7 +153,7 @@ module _ (h k : List ℕ) (rows : ℕ) (from : Position) (n : ℕ) (words : List
         module _ (next : Position) (past : Passes h (s .at) next) (r : Followed)
             (under : FollowsUnder h k rows next (n + 1) (take (length words - 3) (drop 3 words)) r) where
           -- the way goes on by q, and then by t
-          goes-on : (rs : List Row) (x : Place) (p : Spot) (t : Trail) → Under h k rows from n words rs x p t → (q : Spot) (u : Trail)
+          goes-on : (rs : List Row) (x : Place) (p : Spot) (t : Trail) → OnWay h k rows from n words rs x p t → (q : Spot) (u : Trail)
               → drop 3 words ≡ spotWords q ++ trailWords u → GoodSpot q → ValidTrail u → n + suc (trailSteps u) ≤ 8 → t ≡ onward q u
               → Leads rs (n + suc (trailSteps u)) r (entered (follow t) (placeAt p x))
           goes-on rs x p t U q u w g v few e =

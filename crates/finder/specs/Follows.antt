@@ -44,7 +44,7 @@ Follows h k rows words r =
     → Leads (rowsOf D) (suc (trailSteps (w .trail))) r (seek w D)
 
 -- From the place x on, whose children have depth n and whose rows begin at `from`: the words are a way's that goes by p, and then on by t.
-pub record Under (h k : List ℕ) (rows : ℕ) (from : Position) (n : ℕ) (words : List ℕ) (rs : List Row) (x : Place) (p : Spot) (t : Trail)
+pub record OnWay (h k : List ℕ) (rows : ℕ) (from : Position) (n : ℕ) (words : List ℕ) (rs : List Row) (x : Place) (p : Spot) (t : Trail)
     : Type 0 where
   pub marks : List ℕ
   pub values : List ℕ
@@ -65,5 +65,5 @@ pub record Under (h k : List ℕ) (rows : ℕ) (from : Position) (n : ℕ) (word
 
 abbrev pub FollowsUnder : List ℕ → List ℕ → ℕ → Position → ℕ → List ℕ → Followed → Type 0
 FollowsUnder h k rows from n words r =
-    (rs : List Row) (x : Place) (p : Spot) (t : Trail) → Under h k rows from n words rs x p t
+    (rs : List Row) (x : Place) (p : Spot) (t : Trail) → OnWay h k rows from n words rs x p t
     → Leads rs (n + trailSteps t) r (entered (follow t) (placeAt p x))

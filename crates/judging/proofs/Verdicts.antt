@@ -1,10 +1,10 @@
 -- The verdicts 8, 9 and 10 on memory that holds a document.
 -- Assumes nothing.
-use Prim.Native.Nat.{ℕ, zero, suc, _*_, _-_, _≤_, _<_}
+use Prim.Native.Nat.{ℕ, _*_, _-_, _≤_, _<_}
 use native.Mathlib.Omega.{arith}
 use mathlib.Core.Path.{_≡_, refl, sym, ap, ap₂, _∙_, subst}
 use mathlib.Core.Bool.{Bool, true, false, not}
-use mathlib.Core.List.{List, [], _∷_}
+use mathlib.Core.List.{List}
 use lib.ListN.{length, getD, take}
 use Rattle.meaning.specs.Places.{Document}
 use Rattle.meaning.specs.Apply.{apply}
@@ -21,6 +21,7 @@ use Rattle.rows.specs.Counting.{change}
 use Rattle.rows.specs.Within.{underChange, change-under, astray-under}
 use Rattle.message.specs.Means.{wayWords, deedOf, pad, Means}
 use Rattle.message.specs.declared.Operation.{Operation}
+use Rattle.message.proofs.Padded.{pad-long, take-pad}
 use Rattle.tables.specs.Words.{Tables}
 use Rattle.tables.specs.Holding.{Holds, four}
 use Rattle.tables.specs.declared.Counts.{Counts}
@@ -31,19 +32,13 @@ use Rattle.keeping.specs.Storing.{Stores}
 use Rattle.judging.specs.Judging.{Small, hasRoom, goesDown, readyVerdict, topPosition, Newer, JudgesReady}
 use Rattle.judging.specs.declared.ReadyJudgement.{ReadyJudgement}
 use Rattle.judging.specs.declared.ReadyJudgement.the-variants as Y
-use Rattle.judging.proofs.Words.{take-pad, words-count, down-pad}
+use Rattle.judging.proofs.Words.{words-count, down-pad}
 use Rattle.judging.proofs.Rooms.{weight-small, room-is}
 use Rattle.judging.proofs.Tops.{found-top, change-top}
 
 -- the whole way, from the root
 abbrev pub whole : M.Operation → M.Way
 whole o = intoMap (o .top) (o .way)
-
-pad-long : (n : ℕ) (w : List ℕ) → length (pad n w) ≡ n
-unfolding pad
-pad-long zero w = refl
-pad-long (suc n) [] = omega (arith, pad-long n [])
-pad-long (suc n) (x ∷ w) = omega (arith, pad-long n w)
 
 -- 9, of an operation by the words of its last key
 abbrev goesDownAt : Operation → ℕ → ℕ → Bool

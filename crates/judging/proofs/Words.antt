@@ -6,7 +6,7 @@ use mathlib.Core.Path.{_≡_, refl, sym, ap, ap₂, _∙_}
 use mathlib.Core.Bool.{Bool, true, false, cond, not}
 use mathlib.Core.List.{List, [], _∷_}
 use lib.Dec.{ltb, eqb}
-use lib.ListN.{length, getD, take}
+use lib.ListN.{length, getD}
 use lib.Seq.{getD-append-add}
 use borrow.Author.Tests.{eq-eqb, ne-eqb, lt-ltb, le-ltb}
 use Rattle.meaning.specs.Judge.{upward}
@@ -16,12 +16,6 @@ use Rattle.message.specs.Means.{prevWords, wayWords, deedOf, pad}
 use Rattle.message.specs.declared.Deed.{Deed}
 use Rattle.deeds.specs.Deeds.{isInsert}
 use Rattle.judging.specs.Judging.{goesDown}
-
-pub take-pad : (n : ℕ) (w : List ℕ) → length w ≤ n → take (length w) (pad n w) ≡ w
-unfolding pad
-take-pad n [] h = refl
-take-pad zero (x ∷ w) h = absurd (omega arith)
-take-pad (suc n) (x ∷ w) h = ap (x ∷_) (take-pad n w (omega arith))
 
 get-pad : (n : ℕ) (w : List ℕ) (j : ℕ) → length w ≤ n → getD (pad n w) j 0 ≡ getD w j 0
 unfolding pad

@@ -19,7 +19,7 @@ ghost use mathlib.Core.Path.{_≡_};
 ghost use mathlib.Core.List.{[], _∷_};
 ghost use Prim.Native.Nat.{_+_, _≤_};
 ghost use lib.ListN.{length};
-ghost use Rattle.meaning.specs.Sheet.{flagsText, spotText, lineText, seenLine, placeLine, markLine, valueLine, endLine};
+ghost use Rattle.meaning.specs.Sheet.{flagsText, spotText, lineText, seenLine, placeLine, markLine, endLine};
 ghost use Rattle.decimal.specs.Take.{Wrote};
 ghost use Rattle.decimal.specs.Powers.{powersOfTen};
 ghost use Rattle.writers.specs.Wrote.{WroteAt};
@@ -69,7 +69,7 @@ pub fn put_value_row(
     then_text(buf, c, b"\n")
 }
 
-fn then_value_row(
+pub fn then_value_row(
     buf: &mut [u8],
     at: usize,
     id: u64,
@@ -101,21 +101,6 @@ pub fn put_mark_line(buf: &mut [u8], id: u64, powers: &[u64; 20]) -> usize
     let a = put_text(buf, b"mark=");
     let b = then_id(buf, a, id, powers);
     then_text(buf, b, b"\n")
-}
-
-// A value.
-pub fn put_value_line(
-    buf: &mut [u8],
-    id: u64,
-    kind: u64,
-    words: [u64; 4],
-    powers: &[u64; 20],
-) -> usize
-    requires { ⌜ (now powers ≡ powersOfTen) × (length (lineText (valueLine (valueOf id kind words))) ≤ length (now buf)) ⌝ }
-    ensures { λ r. ⌜ Wrote (lineText (valueLine (valueOf id kind words))) (now (buf .entry)) (now (buf .exit)) r ⌝ }
-{
-    let a = put_text(buf, b"value=");
-    then_value_row(buf, a, id, kind, words, powers)
 }
 
 // The end, with the number of places.
@@ -240,13 +225,6 @@ pub fn mark_line_size(id: u64, powers: &[u64; 20]) -> usize
     ensures { λ r. ⌜ Sized (lineText (markLine id)) 47 r ⌝ }
 {
     6 + id_size(id, powers)
-}
-
-pub fn value_line_size(id: u64, kind: u64, words: [u64; 4], powers: &[u64; 20]) -> usize
-    requires { ⌜ now powers ≡ powersOfTen ⌝ }
-    ensures { λ r. ⌜ Sized (lineText (valueLine (valueOf id kind words))) 114 r ⌝ }
-{
-    6 + value_row_size(id, kind, words, powers)
 }
 
 fn spot_size(spot: Spot, powers: &[u64; 20]) -> usize

@@ -20,6 +20,7 @@ use Rattle.tables.specs.Words.{side, headWord, spotWords}
 use Rattle.tables.specs.Heads.{headIn, keyIn, keyAt}
 use Rattle.tables.specs.Finds.{Narrow, depth-in}
 use Rattle.tables.specs.Holding.{headsRoom, Holds, four}
+use Rattle.tables.specs.Parts.{narrow-at}
 use Rattle.tables.specs.Stands.{head-at, key-at}
 use Rattle.tables.specs.declared.Counts.{Counts}
 use Rattle.tables.specs.declared.Head.{Head}
@@ -28,7 +29,7 @@ use Rattle.listings.specs.declared.Nth.the-variants.{At, Nowhere}
 use Rattle.listings.specs.Texts.{headOf, isListed, stillOf, nthRow, Near, IsNth}
 use Rattle.listings.specs.Lists.{Under}
 use Rattle.listings.proofs.Tests.{listed-row}
-use Rattle.listings.proofs.Places.{behind-one, one-on, narrow, under-count}
+use Rattle.listings.proofs.Places.{behind-one, one-on, under-count}
 
 -- On the way over the rows from row i on: n elements are still to be counted.
 module _ (heads : List ℕ) (rows from d index : ℕ) where
@@ -138,7 +139,7 @@ module _ (h k m v : List ℕ) (c : Counts) (d : ℕ) where
   unfolding readUnder passed nthRow stillOf
   nth-is A [] H n s = none-there n
   nth-is A (r ∷ R) H n s =
-      let N = narrow h k m v c A r R H in
+      let N = narrow-at (four h k m v) c A r R H in
       let w = head-at h k m v c A R r H in
       go (deeper d r) (ap (λ w. ltb d (headIn w .depth)) w ∙ ap (ltb d) (depth-in r N))
       (ap (λ w. isListed d 1 (headIn w)) w ∙ listed-row r N d 1)

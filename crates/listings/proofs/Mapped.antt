@@ -29,6 +29,7 @@ use Rattle.tables.specs.Words.{side, headWord, spotWords}
 use Rattle.tables.specs.Heads.{headIn, keyIn, keyAt}
 use Rattle.tables.specs.Finds.{GoodSpot}
 use Rattle.tables.specs.Holding.{Holds, four}
+use Rattle.tables.specs.Parts.{narrow-at}
 use Rattle.tables.specs.Stands.{head-at, key-at}
 use Rattle.tables.specs.declared.Counts.{Counts}
 use Rattle.tables.specs.declared.Head.{Head}
@@ -36,7 +37,7 @@ use Rattle.listings.specs.declared.Extent.{Extent}
 use Rattle.listings.specs.Texts.{headOf, isListed, ofMap, mapRows, shortOf, keyBytes, keyOf, keyText, keysFrom, Extends}
 use Rattle.listings.specs.Lists.{Under}
 use Rattle.listings.proofs.Tests.{listed-row, map-row}
-use Rattle.listings.proofs.Places.{behind-one, one-on, narrow, under-count}
+use Rattle.listings.proofs.Places.{behind-one, one-on, under-count}
 
 -- What is read of a row, of the words that were read.
 module _ (h : Head) (keys : List ℕ) (d row : ℕ) {b : Bool} (t : b ≡ isListed d 0 h) where
@@ -150,7 +151,7 @@ module _ (h k m v : List ℕ) (c : Counts) (d : ℕ) where
       → keyText h k d (length A) ≡ cond (isRead d r) (keyPicked (r .spot)) []
   unfolding keyOf
   row-read A r R H =
-      let n = narrow h k m v c A r R H in
+      let n = narrow-at (four h k m v) c A r R H in
       ap₂ (λ w t. cond (isListed d 0 (headIn w)) (keyRow (keyBytes t)) []) (head-at h k m v c A R r H) (key-at h k m v c A R r H)
       ∙ (ap (λ b. cond b (keyRow (keyBytes (keyIn (spotWords (r .spot))))) []) (listed-row r n d 0)
       ∙ picked (eqb (r .depth) (suc d)) (ltb 0 (length (r .marks))) (r .spot) (n .spot))
@@ -166,7 +167,7 @@ module _ (h k m v : List ℕ) (c : Counts) (d : ℕ) where
   unfolding mapRows passed
   map-is A [] H = refl
   map-is A (r ∷ R) H =
-      let e = ap (λ w. ofMap d (headIn w)) (head-at h k m v c A R r H) ∙ map-row r (narrow h k m v c A r R H) d in
+      let e = ap (λ w. ofMap d (headIn w)) (head-at h k m v c A R r H) ∙ map-row r (narrow-at (four h k m v) c A r R H) d in
       let i = ap (λ i. mapRows h d i (length R)) (sym (behind-one A r)) ∙ map-is (A ++ (r ∷ [])) R (one-on h k m v c A r R H) in
       ap (λ b. cond b (suc (mapRows h d (length A + 1) (length R))) zero) e
       ∙ go (over (suc d) inAMap r) (passed (over (suc d) inAMap) R) i

@@ -7,9 +7,7 @@ use mathlib.Core.List.{List, [], _∷_, _++_, append-assoc}
 use lib.ListN.{length, length-append}
 use Rattle.meaning.specs.Places.{Place}
 use Rattle.meaning.specs.Sheet.{Row, rows}
-use Rattle.tables.specs.Finds.{Narrow, AllNarrow}
 use Rattle.tables.specs.Holding.{headsRoom, Holds, four}
-use Rattle.tables.specs.Parts.{holds-narrow, all-narrow-right}
 use Rattle.tables.specs.declared.Counts.{Counts}
 use Rattle.listings.specs.Lists.{Under}
 
@@ -20,10 +18,6 @@ behind-one A r = length-append A (r ∷ [])
 module _ (h k m v : List ℕ) (c : Counts) where
   pub one-on : (A : List Row) (r : Row) (R : List Row) → Holds (four h k m v) c (A ++ r ∷ R) → Holds (four h k m v) c ((A ++ (r ∷ [])) ++ R)
   one-on A r R H = subst (Holds (four h k m v) c) (sym (append-assoc A (r ∷ []) R)) H
-
-  pub narrow : (A : List Row) (r : Row) (R : List Row) → Holds (four h k m v) c (A ++ r ∷ R) → Narrow r
-  unfolding AllNarrow
-  narrow A r R H = all-narrow-right A (r ∷ R) (holds-narrow (four h k m v) c (A ++ r ∷ R) H) .0
 
 -- how many rows there are: no more than have room, and so many from the place on
 module _ {h k : List ℕ} {count from d : ℕ} {p : Place} (u : Under h k count from d p) where

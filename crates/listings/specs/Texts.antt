@@ -6,7 +6,7 @@
 use Prim.Native.Nat.{ℕ, zero, suc, _+_, _*_, _-_, _<_}
 use mathlib.Core.Path.{_≡_}
 use mathlib.Core.Bool.{Bool, cond, _&&_, _||_}
-use mathlib.Core.List.{List, [], _∷_}
+use mathlib.Core.List.{List, [], _∷_, _++_}
 use lib.Dec.{ltb, eqb}
 use lib.ListN.{getD}
 use Rattle.readers.specs.declared.Key.{Key}
@@ -62,13 +62,13 @@ pub record Extends (heads keys : List ℕ) (rows from d : ℕ) (e : Extent) : Ty
   pub span : e .rows ≡ mapRows heads d from (rows - from)
   pub sized : Sized (keysFrom heads keys d from (e .rows)) (33 * e .rows) (e .size)
 
--- Values: the value i, and n of them from there on.
+-- Values: the value i behind a lead (in a read there is none, in a sheet it is `value=`), and n of them from there on.
 
-abbrev pub valueText : List ℕ → ℕ → List ℕ
-valueText values i = valueRow (valueOf (valueAt values i .id) (valueAt values i .kind) (valueAt values i .words))
+abbrev pub valueText : List ℕ → List ℕ → ℕ → List ℕ
+valueText lead values i = lead ++ valueRow (valueOf (valueAt values i .id) (valueAt values i .kind) (valueAt values i .words))
 
-abbrev pub valuesFrom : List ℕ → ℕ → ℕ → List ℕ
-valuesFrom values = texts (valueText values) (λ i. i + 1)
+abbrev pub valuesFrom : List ℕ → List ℕ → ℕ → ℕ → List ℕ
+valuesFrom lead values = texts (valueText lead values) (λ i. i + 1)
 
 -- Elements: how many are still to be counted behind a row with this head, if n were before it; and where the n-th from row i on stands
 -- among `left` rows, up to the first that isn't under the place.

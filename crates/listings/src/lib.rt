@@ -12,8 +12,8 @@ use list::nth_row;
 use map::extent;
 use map::put_keys;
 use meaning::Reading;
-use plain::put_values;
-use plain::values_size;
+pub use plain::put_values;
+pub use plain::values_size;
 use tables::Position;
 use tables::ROWS_ROOM;
 use tables::VALUES_ROOM;
@@ -73,11 +73,11 @@ pub fn values(buf: &mut [u8], heads: &[u64], values: &[u64], at: Position) -> Re
     let powers = decimal::powers();
     let h = head_at(heads, at.row);
     let n = h.values;
-    let needed = values_size(values, first, n, &powers);
+    let needed = values_size(values, first, n, b"", &powers);
     if buf.len() < needed {
         return Reading::ShortBuffer { needed };
     }
-    let written = put_values(buf, values, first, n, &powers);
+    let written = put_values(buf, values, first, n, b"", &powers);
     Reading::Written { written }
 }
 

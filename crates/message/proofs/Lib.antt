@@ -6,3 +6,4 @@ pub mod Edits
 pub mod Messages
 pub mod Places
 pub mod Settled
+pub mod Padded

@@ -1,9 +1,9 @@
--- A read's way on rows. Each key leads from a place to one that hangs under it, found by the search of specs/Locate; where the place stands,
--- its own row is followed by the rows of what hangs under it, and behind these stands no deeper row.
+-- A read's way on rows. Each key leads from a place to one that hangs under it, found by the search of specs/Locate. Where a place stands,
+-- its own row comes first, then the rows of what hangs under it, and behind these no deeper row.
 -- Assumes nothing.
 use Prim.Native.Nat.{ℕ, suc}
 use native.Mathlib.Omega.{arith}
-use mathlib.Core.Path.{_≡_, refl, sym, ap, _∙_, subst}
+use mathlib.Core.Path.{_≡_, refl, sym, ap, _∙_}
 use mathlib.Core.Bool.{true, false, cond, true≢false}
 use mathlib.Core.List.{List, [], _∷_, _++_, append-nil}
 use lib.ListN.{length}

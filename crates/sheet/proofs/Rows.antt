@@ -5,19 +5,17 @@ use native.Mathlib.Omega.{arith}
 use mathlib.Core.Path.{_≡_, refl}
 use mathlib.Core.List.{List, _++_}
 use Rattle.meaning.specs.Ascii.{ascii}
-use Rattle.meaning.specs.Sheet.{lineText, seenLine, placeLine, valueLine, endLine}
+use Rattle.meaning.specs.Sheet.{lineText, seenLine, placeLine, endLine}
 use Rattle.readers.specs.declared.Key.{Key}
-use Rattle.lines.specs.Rows.{valueOf}
 use Rattle.lines.specs.Spots.{spotOf}
 use Rattle.lines.specs.declared.Spot.{Spot}
 use Rattle.tables.specs.Words.{Tables}
-use Rattle.tables.specs.Heads.{headIn, keyAt, valueAt}
+use Rattle.tables.specs.Heads.{headIn, keyAt}
 use Rattle.tables.specs.Seek.{further, Few}
 use Rattle.tables.specs.Standing.{first}
 use Rattle.tables.specs.declared.Head.{Head}
 use Rattle.tables.specs.declared.Position.{Position}
-use Rattle.tables.specs.declared.Value.{Value}
-use Rattle.sheet.specs.Texts.{spotIn, placeText, valueText, marksText, valuesText, headAt, rowText, rowsText, sheetText, Near}
+use Rattle.sheet.specs.Texts.{spotIn, placeText, marksText, valuesText, headAt, rowText, rowsText, sheetText, Near}
 
 -- a place line of the head and the key that were read
 pub place-here : (h : Head) (keys : List ℕ) (row : ℕ) {key : Key} {spot : Spot} → key ≡ keyAt keys row
@@ -25,11 +23,6 @@ pub place-here : (h : Head) (keys : List ℕ) (row : ℕ) {key : Key} {spot : Sp
     → lineText (placeLine (h .depth) (spotOf spot) (h .map) (h .list)) ≡ placeText h keys row
 unfolding placeText
 place-here h keys row e s = rw (s, e)
-
--- a value line of the value that was read
-pub value-here : (values : List ℕ) (i : ℕ) {v : Value} → v ≡ valueAt values i
-    → lineText (valueLine (valueOf (v .id) (v .kind) (v .words))) ≡ valueText values i
-value-here values i e = rw e
 
 -- a row, whose head was read, and the sheet, in pieces
 pub row-text : (T : Tables) (s : Position) {h : Head} → h ≡ headIn (headAt T s)

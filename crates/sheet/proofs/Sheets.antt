@@ -9,6 +9,7 @@ use borrow.Author.Tests.{le-ltb}
 use lib.Dec.{eqb}
 use lib.ListN.{length, getD, drop, replicate, length-append}
 use lib.Seq.{getD-drop, drop-drop, drop-at}
+use Rattle.meaning.specs.Ascii.{ascii}
 use Rattle.meaning.specs.Places.{Value, Document}
 use Rattle.meaning.specs.Members.{All}
 use Rattle.meaning.specs.Valid.{ValidPlain}
@@ -20,22 +21,23 @@ use Rattle.theorems.specs.Sizes.{lines-append}
 use Rattle.writers.specs.Texts.{texts}
 use Rattle.writers.proofs.Over.{append-none}
 use Rattle.writers.proofs.Runs.{texts-of}
-use Rattle.lines.specs.Rows.{valueOf}
 use Rattle.lines.specs.Spots.{spotOf}
-use Rattle.lines.proofs.Words.{key-back, plain-back}
+use Rattle.lines.proofs.Texts.{value-line-text}
+use Rattle.lines.proofs.Words.{key-back}
+use Rattle.listings.specs.Texts.{valueText}
+use Rattle.listings.proofs.Valued.{Valued, value-is, valued-next}
 use Rattle.tables.specs.Words.{bit, side, headWord, mapIn, listIn, spotWords, marksOf}
 use Rattle.tables.specs.Heads.{headIn, keyIn}
 use Rattle.tables.specs.Seek.{further}
-use Rattle.tables.specs.Finds.{GoodSpot, Narrow, AllNarrow, bit-small, side-small, depth-in, side-in, marks-in, values-in, after}
+use Rattle.tables.specs.Finds.{GoodSpot, Narrow, bit-small, side-small, depth-in, side-in, marks-in, values-in, after}
 use Rattle.tables.specs.Standing.{first, behind}
 use Rattle.tables.specs.Holding.{marksRoom, Holds, four}
-use Rattle.tables.specs.Parts.{At, at-behind, behind-at, holds-narrow, all-narrow-right}
-use Rattle.tables.specs.Parts.{marks-length, marks-parts}
-use Rattle.tables.specs.Values.{ValuesStand, value-first, value-next, values-stand}
+use Rattle.tables.specs.Parts.{At, at-behind, behind-at, narrow-at, marks-length, marks-parts}
+use Rattle.tables.specs.Values.{values-stand}
 use Rattle.tables.specs.Stands.{head-at, key-at}
 use Rattle.tables.specs.declared.Counts.{Counts}
 use Rattle.tables.specs.declared.Position.{Position}
-use Rattle.sheet.specs.Texts.{spotIn, placeText, valueText, markText}
+use Rattle.sheet.specs.Texts.{spotIn, placeText, markText}
 use Rattle.sheet.specs.Texts.{marksText, valuesText, headAt, rowText, rowsText, sheetText}
 use Rattle.sheet.specs.Saving.{ValidRow}
 use Rattle.sheet.proofs.Rows.{row-text}
@@ -73,17 +75,12 @@ module _ (table later : List ℕ) where
 
 -- Values.
 module _ (table : List ℕ) where
-  Valued : ℕ → List Value → Type 0
-  Valued i vs = ValuesStand table i vs × All (λ v. ValidPlain (v .val)) vs
-
-  values-lines : (i : ℕ) (vs : List Value) → Valued i vs → valuesText table i (length vs) ≡ linesText (map valueLine vs)
-  unfolding Valued
+  values-lines : (i : ℕ) (vs : List Value) → Valued table i vs → valuesText table i (length vs) ≡ linesText (map valueLine vs)
   values-lines =
-      all-lines (valueText table) (λ i. i + 1) (λ v. valueLine v ∷ []) (map valueLine) Valued refl (λ v vs. refl)
+      all-lines (valueText (ascii "value=") table) (λ i. i + 1) (λ v. valueLine v ∷ []) (map valueLine) (Valued table) refl (λ v vs. refl)
       (λ i v vs h. (
-        ap (λ t. lineText (valueLine (valueOf (t .id) (t .kind) (t .words)))) (value-first (h .0))
-            ∙ (ap (λ x. lineText (valueLine (record { id = v .id; val = x }))) (plain-back (v .val) (h .1 .0)) ∙ sym (one-line (valueLine v))),
-        (value-next (h .0), h .1 .1),
+        value-is table (ascii "value=") h ∙ (sym (value-line-text v) ∙ sym (one-line (valueLine v))),
+        valued-next table h,
       ))
 
 -- Places.
@@ -116,8 +113,7 @@ module _ (h k m v : List ℕ) (c : Counts) where
     A = st .ahead
 
     narrow : Narrow r
-    unfolding AllNarrow
-    narrow = all-narrow-right A (r ∷ R) (holds-narrow (four h k m v) c (A ++ r ∷ R) (st .holds)) .0
+    narrow = narrow-at (four h k m v) c A r R (st .holds)
 
     at : At s A
     at = at-behind s A (st .here)
@@ -148,7 +144,6 @@ module _ (h k m v : List ℕ) (c : Counts) where
         ∙ drop-at (marksOf A) (r .marks ++ (marksOf R ++ z)) (s .mark) (omega (arith, marks-length A, at .mark)))
 
     values-are : valuesText v (s .value) (length (r .values)) ≡ linesText (map valueLine (r .values))
-    unfolding Valued
     values-are = values-lines v (s .value) (r .values) (rw (at .value) (values-stand h k m v c A R r (st .holds)), st .valid .0)
 
     row-is : rowText (four h k m v) s ≡ linesText (rowLines r)

@@ -7,14 +7,15 @@ use mathlib.Core.Bool.{cond}
 use mathlib.Core.List.{List, _++_}
 use lib.Dec.{ltb, eqb}
 use lib.ListN.{getD}
-use Rattle.meaning.specs.Sheet.{lineText, sheetLine, seenLine, placeLine, markLine, valueLine, endLine}
+use Rattle.meaning.specs.Ascii.{ascii}
+use Rattle.meaning.specs.Sheet.{lineText, sheetLine, seenLine, placeLine, markLine, endLine}
 use Rattle.writers.specs.Texts.{texts}
-use Rattle.lines.specs.Rows.{valueOf}
 use Rattle.lines.specs.Spots.{spotOf}
 use Rattle.lines.specs.declared.Spot.{Spot}
 use Rattle.lines.specs.declared.Spot.the-variants.{Key, Element}
 use Rattle.tables.specs.Words.{marksAt, valuesAt, Tables}
-use Rattle.tables.specs.Heads.{headIn, keyAt, valueAt}
+use Rattle.tables.specs.Heads.{headIn, keyAt}
+use Rattle.listings.specs.Texts.{valuesFrom}
 use Rattle.readers.specs.declared.Key.{Key as KeyWords}
 use Rattle.tables.specs.Seek.{further}
 use Rattle.tables.specs.Standing.{first}
@@ -29,10 +30,7 @@ spotIn s k = cond (eqb s 1) (Element (k .hi)) (cond (ltb 16 (k .len)) (Key (k .h
 unfoldable pub placeText : Head → List ℕ → ℕ → List ℕ
 placeText h keys n = lineText (placeLine (h .depth) (spotOf (spotIn (h .side) (keyAt keys n))) (h .map) (h .list))
 
--- the line of value i
-abbrev pub valueText : List ℕ → ℕ → List ℕ
-valueText values i = lineText (valueLine (valueOf (valueAt values i .id) (valueAt values i .kind) (valueAt values i .words)))
-
+-- the line of mark i
 abbrev pub markText : List ℕ → ℕ → List ℕ
 markText marks i = lineText (markLine (getD marks i 0))
 
@@ -41,7 +39,7 @@ abbrev pub marksText : List ℕ → ℕ → ℕ → List ℕ
 marksText marks = texts (markText marks) (λ i. i + 1)
 
 abbrev pub valuesText : List ℕ → ℕ → ℕ → List ℕ
-valuesText values = texts (valueText values) (λ i. i + 1)
+valuesText values = valuesFrom (ascii "value=") values
 
 -- the head's word of the row at s, the lines of that row, and of n rows from there on
 abbrev pub headAt : Tables → Position → ℕ

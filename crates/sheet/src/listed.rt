@@ -2,10 +2,10 @@
 // and the answer is the place behind what was written.
 use crate::parts::place_size;
 use crate::parts::put_place;
-use crate::parts::put_value;
-use crate::parts::value_size;
 use lines::mark_line_size;
 use lines::put_mark_line;
+use listings::put_values;
+use listings::values_size;
 use tables::Position;
 use tables::head_at;
 use tables::next_row;
@@ -68,37 +68,6 @@ fn then_marks(
 }
 
 // The lines of n values, from one on.
-
-fn values_size(values: &[u64], from: usize, n: usize, powers: &[u64; 20]) -> usize
-    requires { ⌜ (now powers ≡ powersOfTen) × (from + n < 1000000) ⌝ }
-    ensures { λ r. ⌜ Sized (valuesText (now (values .entry)) from n) (114 * n) r ⌝ }
-{
-    let mut sum: usize = 0;
-    let mut i = from;
-    let mut left = n;
-    while 0 < left {
-        sum += value_size(values, i, powers);
-        i += 1;
-        left -= 1;
-    }
-    sum
-}
-
-fn put_values(buf: &mut [u8], values: &[u64], from: usize, n: usize, powers: &[u64; 20]) -> usize
-    requires { ⌜ (now powers ≡ powersOfTen) × (from + n < 1000000) × (length (valuesText (now values) from n) ≤ length (now buf)) ⌝ }
-    ensures { λ r. ⌜ Wrote (valuesText (now (values .entry)) from n) (now (buf .entry)) (now (buf .exit)) r ⌝ }
-{
-    let mut at: usize = 0;
-    let mut i = from;
-    let mut left = n;
-    while 0 < left {
-        at += put_value(&mut buf[at..], values, i, powers);
-        i += 1;
-        left -= 1;
-    }
-    at
-}
-
 fn then_values(
     buf: &mut [u8],
     at: usize,
@@ -110,7 +79,7 @@ fn then_values(
     requires { ⌜ (now powers ≡ powersOfTen) × (from + n < 1000000) × (at + length (valuesText (now values) from n) ≤ length (now buf)) ⌝ }
     ensures { λ r. ⌜ WroteAt (valuesText (now (values .entry)) from n) at (now (buf .entry)) (now (buf .exit)) r ⌝ }
 {
-    at + put_values(&mut buf[at..], values, from, n, powers)
+    at + put_values(&mut buf[at..], values, from, n, b"value=", powers)
 }
 
 // The lines of a row: its place, its marks, its values.
@@ -130,7 +99,7 @@ fn row_size(
     let h = head_at(heads, s.row);
     let a = place_size(h, keys, s.row, powers);
     let b = marks_size(marks, s.mark, h.marks, powers);
-    let c = values_size(values, s.value, h.values, powers);
+    let c = values_size(values, s.value, h.values, b"value=", powers);
     a + b + c
 }
 

@@ -1,13 +1,10 @@
-// A place line and a value line, of a row's words.
+// A place line, of a row's words.
 use lines::Spot;
 use lines::place_line_size;
 use lines::put_place_line;
-use lines::put_value_line;
-use lines::value_line_size;
 use tables::Head;
 use tables::LIST;
 use tables::key_at;
-use tables::value_at;
 ghost use mathlib.Core.Path.{_≡_};
 ghost use Prim.Native.Nat.{_≤_, _<_};
 ghost use lib.ListN.{length};
@@ -16,7 +13,7 @@ ghost use Rattle.decimal.specs.Take.{Wrote};
 ghost use Rattle.writers.specs.Sized.{Sized};
 ghost use Rattle.lines.specs.Spots.{ShortKey};
 ghost use Rattle.tables.specs.Holding.{headsRoom};
-ghost use Rattle.sheet.specs.Texts.{spotIn, placeText, valueText};
+ghost use Rattle.sheet.specs.Texts.{spotIn, placeText};
 
 // Where a row hangs, by its side and its key's words.
 fn spot_of(side: u64, hi: u64, lo: u64, len: u64) -> Spot
@@ -49,24 +46,4 @@ pub fn put_place(buf: &mut [u8], h: Head, keys: &[u64], row: usize, powers: &[u6
     let key = key_at(keys, row);
     let spot = spot_of(h.side, key.hi, key.lo, key.len);
     put_place_line(buf, h.depth, spot, h.map, h.list, powers)
-}
-
-// The line of a value, of its six words.
-
-pub fn value_size(values: &[u64], i: usize, powers: &[u64; 20]) -> usize
-    requires { ⌜ (now powers ≡ powersOfTen) × (i < 1000000) ⌝ }
-    ensures { λ r. ⌜ Sized (valueText (now (values .entry)) i) 114 r ⌝ }
-{
-    let v = value_at(values, i);
-    let words = v.words;
-    value_line_size(v.id, v.kind, words, powers)
-}
-
-pub fn put_value(buf: &mut [u8], values: &[u64], i: usize, powers: &[u64; 20]) -> usize
-    requires { ⌜ (now powers ≡ powersOfTen) × (i < 1000000) × (length (valueText (now values) i) ≤ length (now buf)) ⌝ }
-    ensures { λ r. ⌜ Wrote (valueText (now (values .entry)) i) (now (buf .entry)) (now (buf .exit)) r ⌝ }
-{
-    let v = value_at(values, i);
-    let words = v.words;
-    put_value_line(buf, v.id, v.kind, words, powers)
 }

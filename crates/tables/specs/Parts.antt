@@ -15,7 +15,7 @@ use Rattle.words.proofs.Padded.{pad-length}
 use Rattle.readers.specs.Words.{plainWords}
 use Rattle.tables.specs.Words.{valueWords, eachValue, headWord, Tables}
 use Rattle.tables.specs.Words.{headsOf, keysOf, marksOf, valuesOf}
-use Rattle.tables.specs.Finds.{AllNarrow, nextRow, after}
+use Rattle.tables.specs.Finds.{Narrow, AllNarrow, nextRow, after}
 use Rattle.tables.specs.Standing.{first, behind, heads-append, heads-length, keys-length}
 use Rattle.tables.specs.Holding.{headsRoom, keysRoom, marksRoom, valuesRoom, Good, Holds}
 use Rattle.tables.specs.declared.Counts.{Counts}
@@ -134,6 +134,10 @@ pub all-narrow-right : (a b : List Row) → AllNarrow (a ++ b) → AllNarrow b
 unfolding AllNarrow
 all-narrow-right [] b h = h
 all-narrow-right (r ∷ a) b h = all-narrow-right a b (h .1)
+
+pub narrow-at : (T : Tables) (c : Counts) (a : List Row) (r : Row) (b : List Row) → Holds T c (a ++ r ∷ b) → Narrow r
+unfolding AllNarrow
+narrow-at T c a r b h = all-narrow-right a (r ∷ b) (holds-narrow T c (a ++ r ∷ b) h) .0
 
 -- the lengths of the tables
 module _ (T : Tables) (c : Counts) (rs : List Row) (h : Holds T c rs) where

@@ -8,10 +8,10 @@ use mathlib.Core.List.{List, _∷_, _++_}
 use lib.ListN.{length, getD}
 use Rattle.meaning.specs.Sheet.{Row}
 use Rattle.tables.specs.Words.{headWord, marksAt, valuesAt, Tables}
-use Rattle.tables.specs.Finds.{AllNarrow, bit-small, side-small, marks-in, values-in}
+use Rattle.tables.specs.Finds.{bit-small, side-small, marks-in, values-in}
 use Rattle.tables.specs.Standing.{behind}
 use Rattle.tables.specs.Holding.{Good, Holds}
-use Rattle.tables.specs.Parts.{at-behind, holds-narrow, all-narrow-right, all-right, marks-long, values-long}
+use Rattle.tables.specs.Parts.{at-behind, narrow-at, all-right, marks-long, values-long}
 use Rattle.tables.specs.Stands.{head-at}
 use Rattle.tables.specs.declared.Counts.{Counts}
 use Rattle.tables.specs.declared.Position.{Position}
@@ -30,10 +30,9 @@ pub record Placed (T : Tables) (c : Counts) (s : Position) (r : Row) : Type 0 wh
   pub good : Good r
 
 pub placed : (T : Tables) (c : Counts) (s : Position) (A R : List Row) (r : Row) → Holds T c (A ++ r ∷ R) → s ≡ behind A → Placed T c s r
-unfolding AllNarrow
 placed T c s A R r H e =
     let p = at-behind s A e in
-    let n = all-narrow-right A (r ∷ R) (holds-narrow T c (A ++ r ∷ R) H) .0 in
+    let n = narrow-at T c A r R H in
     let d : getD (T .heads) (s .row) 0 ≡ headWord r = rw (p .row) (head-at (T .heads) (T .keys) (T .marks) (T .values) c A R r H) in
     record {
       row = omega (arith, p .row, row-in A r R T c H);

@@ -17,7 +17,8 @@ use Rattle.tables.specs.Seek.{isSought, Searches, further, Passes, sough
 use Rattle.tables.specs.Finds.{AllNarrow, nextRow, further-same, after, Agrees, Tells, key-here}
 use Rattle.tables.specs.Standing.{first, behind, after-more, heads-length, keys-from, found}
 use Rattle.tables.specs.Holding.{Holds, four, begins}
-use Rattle.tables.specs.Parts.{at-behind, holds-narrow, heads-long, keys-long, heads-parts, all-narrow-left, all-narrow-right}
+use Rattle.tables.specs.Parts.{at-behind, holds-narrow, narrow-at, heads-long, keys-long, heads-parts}
+use Rattle.tables.specs.Parts.{all-narrow-left, all-narrow-right}
 use Rattle.tables.specs.declared.Counts.{Counts}
 use Rattle.tables.specs.declared.Position.{Position}
 use Rattle.tables.specs.declared.Search.{Search}
@@ -90,16 +91,13 @@ module _ (h k m v : List ℕ) (c : Counts) (A R : List Row) (r : Row) (H : Holds
   -- it is told
   pub wanted-at : (w : Search) (meant : Spot → Bool) → Tells w meant
       → isSought w (headIn (getD h (length A) 0)) (keyAt k (length A)) ≡ at (w .depth) meant r
-  unfolding AllNarrow
-  wanted-at w meant t =
-      ap₂ (isSought w) (ap headIn head-at) key-at
-      ∙ t r (all-narrow-right A (r ∷ R) (holds-narrow (four h k m v) c (A ++ r ∷ R) H) .0)
+  wanted-at w meant t = ap₂ (isSought w) (ap headIn head-at) key-at ∙ t r (narrow-at (four h k m v) c A r R H)
 
   -- the place behind it
   pub row-past : (s : Position) → s ≡ behind A → further s (getD h (s .row) 0) ≡ behind (A ++ r ∷ [])
-  unfolding AllNarrow after
+  unfolding after
   row-past s b =
-      let N = all-narrow-right A (r ∷ R) (holds-narrow (four h k m v) c (A ++ r ∷ R) H) .0 in
+      let N = narrow-at (four h k m v) c A r R H in
       ap (λ i. further s (getD h i 0)) (at-behind s A b .row)
       ∙ (ap (further s) head-at ∙ (further-same r N s ∙ (ap (λ s. nextRow s r) b ∙ sym (after-more first A (r ∷ [])))))
 

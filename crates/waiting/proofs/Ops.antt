@@ -20,16 +20,10 @@ use Rattle.message.specs.Means.{wayWords, pad, deedOf, deedWords, Means}
 use Rattle.message.specs.declared.Deed.{Deed}
 use Rattle.message.specs.declared.Deed.the-variants as D
 use Rattle.message.specs.declared.Operation as M
+use Rattle.message.proofs.Padded.{pad-long}
 use Rattle.waiting.specs.Rows.{givenCode, givenNumber, givenBy, deedCode, deedNumber, deedBy}
 use Rattle.waiting.specs.Rows.{counters, rowWords, opWords, heldWords, ReadsRow}
 use Rattle.waiting.specs.Waits.{idOf}
-
--- n words
-pub pad-long : (n : ℕ) (w : List ℕ) → length (pad n w) ≡ n
-unfolding pad
-pad-long zero w = refl
-pad-long (suc n) [] = ap suc (pad-long n [])
-pad-long (suc n) (x ∷ w) = ap suc (pad-long n w)
 
 pad-same : (n : ℕ) (w : List ℕ) → length w ≡ n → pad n w ≡ w
 unfolding pad

@@ -11,9 +11,6 @@ use borrow.Author.Needs.{needs}
 use Rattle.listings.proofs.element.Statement.{statement}
 use Rattle.listings.proofs.element.Tie as tie
 
-nth-row-requires : tie.Need-nth-row-requires
-nth-row-requires c κs = (c .before .if2 .left, c .before .before .if1 .left, omega (arith, c .if3 .left))
-
 key-at-requires : tie.Need-key-at-requires
 key-at-requires c κs = omega (arith, near-at (c .before .found .given .1) (c .before .before .before .nth-row .ensures .near))
 
@@ -47,7 +44,7 @@ element-spec =
     (λ c. gives notThere (λ p u. absurd (omega (arith, under-few u, c .if1 .taken))) (not-there _))
     (λ c. gives notThere (λ p u. absurd (omega (arith, under-count u, c .if2 .taken))) (not-there _))
     (λ c. gives notThere (λ p u. rw (c .if3 .taken) (no-index _)) (not-there _))
-    nth-row-requires
+    (λ c κs. (c .before .if2 .left, c .before .before .if1 .left, omega (arith, c .if3 .left)))
     (λ c. search needs)
     key-at-requires
     (λ c κs. search needs)

@@ -2,7 +2,6 @@
 -- Assumes nothing.
 use native.Mathlib.Omega.{arith}
 use Rattle.listings.proofs.Tests.{unlisted, unlisted-deep, other-side, this-side}
-use borrow.Author.Needs.{needs}
 use Rattle.listings.proofs.list.is_listed.Statement.{statement}
 use Rattle.listings.proofs.list.is_listed.Tie as tie
 

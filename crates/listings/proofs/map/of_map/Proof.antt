@@ -2,7 +2,6 @@
 -- Assumes nothing.
 use native.Mathlib.Omega.{arith}
 use Rattle.listings.proofs.Tests.{not-of-map, of-map-deep, of-map-side}
-use borrow.Author.Needs.{needs}
 use Rattle.listings.proofs.map.of_map.Statement.{statement}
 use Rattle.listings.proofs.map.of_map.Tie as tie
 

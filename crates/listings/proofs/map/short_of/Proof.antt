@@ -3,7 +3,6 @@
 use native.Mathlib.Omega.{arith}
 use borrow.Author.Tests.{lt-ltb, le-ltb}
 use Rattle.listings.specs.Texts.{shortOf}
-use borrow.Author.Needs.{needs}
 use Rattle.listings.proofs.map.short_of.Statement.{statement}
 use Rattle.listings.proofs.map.short_of.Tie as tie
 

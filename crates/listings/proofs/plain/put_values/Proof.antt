@@ -10,20 +10,20 @@ use Rattle.listings.proofs.plain.put_values.Statement.{statement}
 use Rattle.listings.proofs.plain.put_values.Tie as tie
 
 abbrev Inv-loop : tie.InvT-loop
-Inv-loop buf₀ values from n t at₀ i₀ left₀ buf at i left = Writing (valuesFrom values from n) buf₀ (valuesFrom values i left) buf at
-    × (i + left ≡ from + n)
+Inv-loop buf₀ values from n lead t at₀ i₀ left₀ buf at i left = Writing (valuesFrom lead values from n) buf₀
+    (valuesFrom lead values i left) buf at × (i + left ≡ from + n)
 
 abbrev μ-loop : tie.MeasureT-loop
-μ-loop buf₀ values from n t at₀ i₀ left₀ buf at i left = left
+μ-loop buf₀ values from n lead t at₀ i₀ left₀ buf at i left = left
 
 put-value-requires : tie.Need-put-value-requires Inv-loop μ-loop
 put-value-requires c κs =
     let at-loop = c .before .before in
-    let at-pre = at-loop .before .before .before in (
+    let at-pre = at-loop .before .before .before .before in (
       at-pre .pre .0,
       omega (arith, at-loop .loop .inv .1, c .before .loop-test .taken, at-pre .pre .1),
       write-room
-          (valueText (at-pre .args .values .now)) (λ i. i + 1) (at-loop .loop .i) (at-loop .loop .left) (at-loop .loop .inv .0)
+          (valueText (at-pre .args .lead .now) (at-pre .args .values .now)) (λ i. i + 1) (at-loop .loop .i) (at-loop .loop .left) (at-loop .loop .inv .0)
           (c .before .loop-test .taken),
     )
 
@@ -32,10 +32,10 @@ add-at c =
     let at-put-value = c .before .before in
     let at-loop-test = at-put-value .before .before in
     let at-loop = at-loop-test .before in
-    let at-start = at-loop .before .before .before in
+    let at-start = at-loop .before .before .before .before in
     omega (
       arith,
-      write-fits (valueText (at-start .args .values .now)) (λ i. i + 1) (at-loop .loop .i) (at-loop .loop .left)
+      write-fits (valueText (at-start .args .lead .now) (at-start .args .values .now)) (λ i. i + 1) (at-loop .loop .i) (at-loop .loop .left)
           (at-loop .loop .inv .0) (at-loop-test .loop-test .taken) (at-put-value .put-value .ensures),
       same-long (at-loop .loop .inv .0),
     )
@@ -44,7 +44,7 @@ add-i : tie.Need-add-i Inv-loop μ-loop
 add-i c =
     let at-loop-test = c .before .before .before .before in
     let at-loop = at-loop-test .before in
-    let at-pre = at-loop .before .before .before in
+    let at-pre = at-loop .before .before .before .before in
     omega (arith, at-loop .loop .inv .1, at-loop-test .loop-test .taken, at-pre .pre .1)
 
 sub-left : tie.Need-sub-left Inv-loop μ-loop
@@ -62,8 +62,8 @@ loop-again c =
     let at-put-value = c .before .before in
     let at-loop-test = at-put-value .before .before in
     let at-loop = at-loop-test .before in
-    let at-start = at-loop .before .before .before in (
-      write-more (valueText (at-start .args .values .now)) (λ i. i + 1) (at-loop .loop .i) (at-loop .loop .left)
+    let at-start = at-loop .before .before .before .before in (
+      write-more (valueText (at-start .args .lead .now) (at-start .args .values .now)) (λ i. i + 1) (at-loop .loop .i) (at-loop .loop .left)
           (at-loop .loop .inv .0) (at-loop-test .loop-test .taken) (at-put-value .put-value .ensures),
       omega
           (arith, at-loop .loop .inv .1, at-loop-test .loop-test .taken),
@@ -71,8 +71,8 @@ loop-again c =
 
 returns : tie.Need-returns Inv-loop μ-loop
 returns c =
-    let at-start = c .before .before .before .before in
-    write-all (valueText (at-start .args .values .now)) (λ i. i + 1) (c .before .loop .i) (c .before .loop .left)
+    let at-start = c .before .before .before .before .before in
+    write-all (valueText (at-start .args .lead .now) (at-start .args .values .now)) (λ i. i + 1) (c .before .loop .i) (c .before .loop .left)
     (c .before .loop .inv .0) (c .loop-test .left)
 
 pub put-values-spec : {M : Type 1} → statement M
@@ -81,7 +81,7 @@ put-values-spec =
     (tie.spec
     Inv-loop
     μ-loop
-    (λ c. (begun _ _ (c .before .before .pre .2), refl))
+    (λ c. (begun _ _ (c .before .before .before .pre .2), refl))
     (λ c. omega (arith, last-room (c .before .loop .inv .0)))
     (λ c. omega (arith, last-room (c .before .loop .inv .0)))
     (λ c. omega (arith, last-room (c .before .loop .inv .0)))

@@ -8,13 +8,14 @@ use Rattle.sheet.proofs.listed.then_values.Tie as tie
 returns : tie.Need-returns
 returns c =
     let at-put = c .before .before in
-    let at-pre = at-put .before .before .before .before in
+    let at-pre = at-put .before .before .before .before .before in
     came-back _ _ _ (at-pre .pre .2) (at-put .put-values .ensures)
 
 pub then-values-spec : {M : Type 1} → statement M
 then-values-spec =
     tie.close
     (tie.spec
+    (λ c. search needs)
     (λ c. search needs)
     (λ c. search needs)
     (λ c. search needs)
