@@ -1,7 +1,7 @@
 # The two commands of the README.
 #   make demo   proves and builds `merge`, and runs it on two streams
 #   make test   passes all tests; its last line is the gate's own, 'N passed, 0 failed'
-.PHONY: demo test setup rust-test same edits
+.PHONY: demo test setup rust-test same vectors edits
 
 demo:
 	rt check merge
@@ -23,13 +23,19 @@ rust-test:
 
 # rt follows no link, so a program's input and output are copies: of the kept vectors, and of what bench/reads and bench/works time
 same:
-	cat vectors/layout.script vectors/received.script vectors/applied.script vectors/example.script | cmp - crates/replay/stdin
-	cat vectors/layout.answers vectors/received.answers vectors/applied.answers vectors/example.answers | cmp - crates/replay/stdout
+	cat vectors/example.script vectors/edges.script | cmp - crates/replay/stdin
+	cat vectors/example.answers vectors/edges.answers | cmp - crates/replay/stdout
 	cmp examples/five.messages crates/merge/stdin
 	cmp vectors/merge-example.sheet crates/merge/stdout
 	cmp bench/typical.message crates/readings/stdin
 	rust/target/release/vectors bench typical 10 | cmp - crates/works/stdin
 	rust/target/release/workbench <crates/works/stdin | cmp - crates/works/stdout
+
+# the proved `replay` over the kept scripts and over those that are made of other seeds: make vectors SEEDS="2 3 4"
+vectors:
+	[ -x target/bin/replay ] || rt check replay >/dev/null
+	cd rust && cargo build --release --quiet
+	SEEDS="$(SEEDS)" tools/replays tools/run target/bin/replay
 
 # the must-fail edits that the gate doesn't try (tools/edits): of all crates, or of those that CRATES names
 edits:

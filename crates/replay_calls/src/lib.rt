@@ -1,21 +1,24 @@
 // The calls of a replay script (docs/REPLAY.md), answered on standard output from a terminal in lent memory: `reset`, `receive` and `save`;
-// the layout calls by `replay_layout`.
+// the others by `replay_edit`, `replay_reads` and `replay_layout`.
 use keeping::State;
-use libc::STDOUT_FILENO;
 use meaning::Receipt;
 use meaning::Saved;
 use readers::Past;
+use replay_edit::After;
+use replay_text::FILL;
+use replay_text::LONGEST_BUFFER;
+use replay_text::block_of;
+use replay_text::say;
+use replay_text::say_number;
+use replay_text::say_short;
+use replay_text::say_written;
+use script::Asked;
+use script::BlockFound;
 use tables::HEADS;
 use tables::KEYS;
 use tables::MARKS;
 use tables::VALUES;
 use waiting::WAITING;
-
-// Where the next call stands, and the terminal's state after this one.
-pub struct After {
-    pub next: usize,
-    pub state: State,
-}
 
 // The call at a place of a script, and where the next one stands.
 enum Call {
@@ -29,32 +32,23 @@ fn find(text: &[u8], a: usize) -> Call {
     if let Past::At(next) = readers::take_text(text, a, b"reset\n") {
         return Call::Reset { next };
     }
-    let m = script::block(text, a, b"receive ");
-    if m.ok {
-        return Call::Receive {
-            from: m.from,
-            to: m.to,
-            next: m.next,
-        };
+    if let BlockFound::Bytes { from, to, next } = block_of(text, a, b"receive ") {
+        return Call::Receive { from, to, next };
     }
-    let b = script::first_line(text, a, b"save ", script::LONGEST);
-    if b.ok {
-        return Call::Save {
-            size: b.number,
-            next: b.next,
-        };
+    if let Asked::Number { value, next: end } = script::number(
+        text,
+        a,
+        b"save ",
+        LONGEST_BUFFER as u64,
+    ) {
+        if let Past::At(next) = readers::take_byte(text, end, b'\n') {
+            return Call::Save {
+                size: value as usize,
+                next,
+            };
+        }
     }
     Call::Other
-}
-
-fn say(text: &[u8]) {
-    io::write_all(STDOUT_FILENO, text);
-}
-
-// A number and the bytes behind it.
-fn say_number(n: u64, behind: &[u8]) {
-    io::print_decimal(STDOUT_FILENO, n);
-    say(behind);
 }
 
 fn blank(t: &mut [u64]) {
@@ -126,33 +120,10 @@ fn receive(
     r.state
 }
 
-// Whether the bytes from a place on are the fill byte still; the answer's line ends with it.
-fn say_rest(buf: &[u8], from: usize) {
-    let mut i = from;
-    while i < buf.len() {
-        if buf[i] != 165 {
-            say(b"changed\n");
-            return;
-        }
-        i += 1;
-    }
-    say(b"same\n");
-}
-
 fn say_saved(saved: Saved, buf: &[u8]) {
     match saved {
-        Saved::Written { written } => {
-            say(b"save 0 0 0 ");
-            say_number(written as u64, b" ");
-            say_rest(buf, written);
-            say(script::part(buf, 0, written));
-            say(b"\n");
-        }
-        Saved::ShortBuffer { needed } => {
-            say(b"save 13 ");
-            say_number(needed as u64, b" ");
-            say_rest(buf, 0);
-        }
+        Saved::Written { written } => say_written(b"save ", 0, 0, written, buf),
+        Saved::ShortBuffer { needed } => say_short(b"save ", needed, buf),
     }
 }
 
@@ -180,11 +151,28 @@ fn save(
     s: State,
     n: usize,
 ) {
-    let mut space = [165u8; 65536];
+    let mut space = [FILL; LONGEST_BUFFER];
     let buf: &mut [u8] = &mut space;
     if n <= buf.len() {
         save_to(heads, keys, marks, values, s, &mut buf[..n]);
     }
+}
+
+// Answers the calls that change nothing: the reads, and those that ask for a layout.
+fn answer_other(
+    heads: &[u64; HEADS],
+    keys: &[u64; KEYS],
+    values: &[u64; VALUES],
+    s: State,
+    text: &[u8],
+    a: usize,
+) -> usize {
+    let c = s.counts;
+    let next = replay_reads::answer(heads, keys, values, c, text, a);
+    if next != a {
+        return next;
+    }
+    replay_layout::answer(text, a)
 }
 
 // Answers the call at a place of a script, and says where the next one stands; the same place if there is no such call.
@@ -214,7 +202,11 @@ pub fn answer(
             After { next, state: s }
         }
         Call::Other => {
-            let next = replay_layout::answer(text, a);
+            let e = replay_edit::answer(heads, keys, marks, values, waiting, s, text, a);
+            if e.next != a {
+                return e;
+            }
+            let next = answer_other(heads, keys, values, s, text, a);
             After { next, state: s }
         }
     }

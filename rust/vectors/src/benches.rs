@@ -20,6 +20,16 @@ pub const WORKS: &[Work] = &[
     ("insert", deep, insert_deep),
     ("assign", deep, assign_deep),
     ("made", crowded, make_eight),
+    ("editsmall", receive_five, edit_small),
+    ("edittypical", typical, edits),
+    ("editfull", fullest, edit_full),
+    ("keyssmall", receive_five, keys_of_root),
+    ("keystypical", typical, keys_typical),
+    ("keysfull", rooted, keys_of_root),
+    ("valuestypical", typical, values_typical),
+    ("valuesfull", fullest, values_full),
+    ("elementsmall", receive_five, first_element),
+    ("elementlong", listed, elements),
     ("savesmall", receive_five, save),
     ("savetypical", typical, save),
     ("savefull", fullest, save),
@@ -176,5 +186,90 @@ fn crowded(script: &mut Script) {
 fn make_eight(script: &mut Script) {
     for key in (0..8).rev() {
         script.receive_next(2, &vec![hex(&[key]); 8].join("{"), "assign", "t");
+    }
+}
+
+/// Two edits of document 01's list.
+fn edit_small(script: &mut Script) {
+    script.edit(3, &lines("73[3.1", "insert", "s64"));
+    script.edit(3, &lines("73[3.2", "assign", "t"));
+}
+
+/// 32 edits that assign a value at ways of three keys.
+fn edits(script: &mut Script) {
+    for turn in 0..32 {
+        script.edit(2, &lines(&way(turn * 37 % 80), "assign", "s68656c6c6f"));
+    }
+}
+
+/// Edits of the fullest document: values that replace four, at the ends of its longest ways, and then deletes.
+fn edit_full(script: &mut Script) {
+    for way in (0..64).step_by(8) {
+        let keys = [way, 1, 2, 3].map(|key| hex(&[key; 16]));
+        script.edit(8, &lines(&keys.join("{"), "delete", ""));
+        script.edit(8, &lines(&keys.join("{"), "assign", "t"));
+    }
+}
+
+fn keys_of_root(script: &mut Script) {
+    script.keys(b"");
+}
+
+/// The keys of the root, of each key of the root and of 16 places under these.
+fn keys_typical(script: &mut Script) {
+    keys_of_root(script);
+    for turn in 0..16 {
+        let way = way(turn);
+        for keys in 1..=2 {
+            let way: Vec<&str> = way.split('{').take(keys).collect();
+            script.keys(format!("{}{{", way.join("{")).as_bytes());
+        }
+    }
+}
+
+/// 256 keys of the root.
+fn rooted(script: &mut Script) {
+    for key in 0..=255 {
+        script.receive_next(1, &hex(&[key; 16]), "assign", "n");
+    }
+}
+
+/// The values of 32 places at ways of three keys.
+fn values_typical(script: &mut Script) {
+    for turn in 0..32 {
+        script.values(way(turn * 37 % 80).as_bytes());
+    }
+}
+
+/// The values of each place of the fullest document that has some.
+fn values_full(script: &mut Script) {
+    for way in 0..64 {
+        let keys = [way, 1, 2, 3].map(|key| hex(&[key; 16]));
+        script.values(keys.join("{").as_bytes());
+    }
+}
+
+fn first_element(script: &mut Script) {
+    script.element(b"73[", 1);
+    script.element(b"73[", 2);
+}
+
+/// A list of 200 elements, every third of them absent, behind a map of 50 keys.
+fn listed(script: &mut Script) {
+    for key in 0..50 {
+        script.receive_next(1, &format!("6c{{{}", hex(&[key])), "assign", "n");
+    }
+    for _ in 0..200 {
+        script.receive_next(1, "6c[^", "insert", "t");
+    }
+    for element in (51..251).step_by(3) {
+        script.receive_next(1, &format!("6c[{element}.1"), "delete", "");
+    }
+}
+
+/// Each of its elements by its index, and the one behind the last.
+fn elements(script: &mut Script) {
+    for index in 1..=134 {
+        script.element(b"6c[", index);
     }
 }

@@ -9,8 +9,6 @@ pub const LONGEST_SHEET: usize = 65_536;
 pub const LONGEST_BUFFER: usize = 65_536;
 /// The longest first line of a call, without its LF.
 pub const LONGEST_LINE: usize = 40;
-/// The greatest number in a first line.
-pub const GREATEST: u64 = 4_294_967_295;
 
 /// One call.
 #[derive(Clone, Copy, PartialEq, Eq, Debug)]

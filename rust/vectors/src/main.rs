@@ -25,7 +25,7 @@ fn main() -> ExitCode {
     match run(&arguments) {
         Ok(true) => ExitCode::SUCCESS,
         Ok(false) => {
-            let kinds: Vec<&str> = kinds::KINDS.iter().map(|(name, _)| *name).collect();
+            let kinds: Vec<&str> = kinds::all().map(|(name, _)| *name).collect();
             let names: Vec<&str> = benches::WORKS.iter().map(|(name, ..)| *name).collect();
             eprintln!("{USAGE}\nkinds: {}\nnames: {}", kinds.join(" "), names.join(" "));
             ExitCode::from(2)
@@ -41,7 +41,7 @@ fn main() -> ExitCode {
 fn run(arguments: &[&str]) -> io::Result<bool> {
     match arguments {
         ["script", kind, seed] => {
-            let kind = kinds::KINDS.iter().find(|(name, _)| name == kind);
+            let kind = kinds::all().find(|(name, _)| name == kind);
             let (Some((_, play)), Ok(seed)) = (kind, seed.parse()) else {
                 return Ok(false);
             };

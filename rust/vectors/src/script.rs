@@ -95,6 +95,15 @@ impl Script {
         self.call(Call::Element { way, index, buffer: 20 });
     }
 
+    /// An edit with no buffer, with one that is a byte short, and with one of just the length.
+    pub fn edit_at_border(&mut self, device: u64, lines: &[u8]) {
+        let reply = self.call(Call::Edit { device, lines, buffer: 0 });
+        if let Answer::BufferShort { needed } = reply.answer {
+            self.call(Call::Edit { device, lines, buffer: needed - 1 });
+            self.call(Call::Edit { device, lines, buffer: needed });
+        }
+    }
+
     /// Makes a call that writes with room, and then with a buffer of just the length
     /// written, one shorter, and none. Not for edits, which would be made four times.
     pub fn at_border<'a>(&mut self, with: impl Fn(usize) -> Call<'a>) {

@@ -4,6 +4,7 @@ mod common;
 use sheet::{Document, Size};
 use vectors::benches::{script, WORKS};
 use vectors::call::Call;
+use vectors::replay::perform;
 
 /// What `workbench` prints.
 fn printed(script: &[u8]) -> String {
@@ -14,7 +15,7 @@ fn printed(script: &[u8]) -> String {
 
 #[test]
 fn they_end_as_is_meant() {
-    // places, marks, values, waiting messages, bytes of the sheet
+    // places, marks, values, waiting messages, bytes that were written last; each reckoned by hand
     let ends = [
         ("small", "4 6 2 0 0\n"),
         ("stream", "120 300 100 0 0\n"),
@@ -26,6 +27,16 @@ fn they_end_as_is_meant() {
         ("insert", "256 1024 247 0 0\n"),
         ("assign", "256 1024 247 0 0\n"),
         ("made", "256 1024 9 0 0\n"),
+        ("editsmall", "5 10 3 0 61\n"),
+        ("edittypical", "100 336 80 0 78\n"),
+        ("editfull", "256 1024 232 0 267\n"),
+        ("keyssmall", "4 6 2 0 3\n"),
+        ("keystypical", "100 240 80 0 15\n"),
+        ("keysfull", "256 256 256 0 8448\n"),
+        ("valuestypical", "100 240 80 0 8\n"),
+        ("valuesfull", "256 1024 256 0 316\n"),
+        ("elementsmall", "4 6 2 0 4\n"),
+        ("elementlong", "251 433 183 0 5\n"),
         ("savesmall", "4 6 2 0 168\n"),
         ("savetypical", "100 240 80 0 4722\n"),
         ("savefull", "256 1024 256 0 51053\n"),
@@ -39,7 +50,7 @@ fn they_end_as_is_meant() {
     assert!(script("another", 3).is_none());
 }
 
-/// What is built, and the numbers of the answers to what a turn receives.
+/// What is built, and the numbers of the answers to the calls of a turn.
 fn played(name: &str) -> (Size, usize, Vec<u8>) {
     let script = script(name, 70_000).unwrap();
     let mut document = Document::new();
@@ -47,14 +58,11 @@ fn played(name: &str) -> (Size, usize, Vec<u8>) {
     let mut answers = Vec::new();
     let mut rest = &script[..];
     while let Some(call) = Call::take(&mut rest) {
-        match call {
-            Call::Receive { message } => answers.push(document.receive(message).number()),
-            Call::Save { buffer: 70_000 } => {
-                built = Some((document.size(), document.waiting().len()));
-                answers.clear();
-            }
-            Call::Save { .. } => assert!(rest.is_empty(), "{name}"),
-            _ => panic!("{call:?}"),
+        if call == (Call::Save { buffer: 70_000 }) {
+            built = Some((document.size(), document.waiting().len()));
+            answers.clear();
+        } else {
+            answers.push(perform(&mut document, &call, &mut Vec::new()).answer.number());
         }
     }
     let (size, waiting) = built.expect("the number of turns");
@@ -62,7 +70,7 @@ fn played(name: &str) -> (Size, usize, Vec<u8>) {
 }
 
 #[test]
-fn they_begin_as_is_meant_and_each_timed_message_is_applied() {
+fn they_begin_as_is_meant_and_each_timed_call_is_answered_0() {
     let size = |places, marks, values| Size { places, marks, values };
     for (name, built, waiting, count) in [
         ("small", size(0, 0, 0), 0, 5),
@@ -75,7 +83,14 @@ fn they_begin_as_is_meant_and_each_timed_message_is_applied() {
         ("insert", size(226, 784, 217), 0, 30),
         ("assign", size(226, 784, 217), 0, 30),
         ("made", size(192, 960, 1), 0, 8),
-        ("savetypical", size(100, 240, 80), 0, 0),
+        ("editsmall", size(4, 6, 2), 0, 2),
+        ("edittypical", size(100, 240, 80), 0, 32),
+        ("editfull", size(256, 1024, 256), 0, 16),
+        ("keystypical", size(100, 240, 80), 0, 33),
+        ("keysfull", size(256, 256, 256), 0, 1),
+        ("valuestypical", size(100, 240, 80), 0, 32),
+        ("valuesfull", size(256, 1024, 256), 0, 64),
+        ("savetypical", size(100, 240, 80), 0, 1),
     ] {
         assert_eq!(played(name), (built, waiting, vec![0; count]), "{name}");
     }

@@ -6,7 +6,7 @@ use std::fs;
 
 use common::{folder, kept};
 use sheet::{Branches, Document, MOST, MOST_WAITING};
-use vectors::call::{Call, GREATEST, LONGEST_BUFFER};
+use vectors::call::{Call, LONGEST_BUFFER};
 use vectors::counts::Counts;
 use vectors::kept::files;
 use vectors::kinds::{script, KINDS};
@@ -66,15 +66,15 @@ fn a_script_is_its_calls_again_and_its_lines_are_short() {
         let mut rest = &script[..];
         while let Some(call) = Call::take(&mut rest) {
             call.write(&mut again);
-            let (buffer, number) = match call {
-                Call::Edit { device, buffer, .. } => (buffer, device),
-                Call::Element { index, buffer, .. } => (buffer, index),
-                Call::Save { buffer } | Call::Keys { buffer, .. } | Call::Values { buffer, .. } => {
-                    (buffer, 0)
-                }
-                _ => (0, 0),
+            let buffer = match call {
+                Call::Edit { buffer, .. }
+                | Call::Element { buffer, .. }
+                | Call::Save { buffer }
+                | Call::Keys { buffer, .. }
+                | Call::Values { buffer, .. } => buffer,
+                _ => 0,
             };
-            assert!(buffer <= LONGEST_BUFFER && number <= GREATEST);
+            assert!(buffer <= LONGEST_BUFFER);
         }
         assert!(again == script, "{name}");
     }
@@ -133,7 +133,8 @@ fn another_seed_gives_another_script_that_can_be_played() {
             let script = script(*play, &Random::new(seed));
             assert!(!replay(&script).is_empty());
             let same = script == kept(&format!("{name}.script"));
-            assert_eq!(same, *name == "example", "{name}: only the example has nothing that chance chooses");
+            let fixed = ["example", "edges"].contains(name);
+            assert_eq!(same, fixed, "{name}: only these two have nothing that chance chooses");
         }
     }
 }

@@ -1,5 +1,5 @@
--- `works::turns` is safe and ends: the turns are counted down. Assumes nothing.
-use native.Mathlib.Omega.{arith}
+-- `works::turns` is safe and ends: the turns are counted down.
+-- Assumes nothing.
 use borrow.Author.Needs.{needs}
 use Rattle.works.proofs.turns.Statement.{statement}
 use Rattle.works.proofs.turns.Tie as tie
@@ -17,9 +17,9 @@ turns-spec =
     Inv-loop
     μ-loop
     (λ c. search needs)
-    (λ c. tt)
-    (λ c κs. tt)
-    (λ c. omega (arith, c .before .before .before .before .loop-test .taken))
-    (λ c. omega (arith, c .before .before .before .before .loop-test .taken))
-    (λ c. tt)
-    (λ c. tt))
+    (λ c. search needs)
+    (λ c κs. search needs)
+    (λ c. search needs)
+    (λ c. search needs)
+    (λ c. search needs)
+    (λ c. search needs))

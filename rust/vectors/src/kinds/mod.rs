@@ -6,6 +6,8 @@ mod chains;
 mod damaged;
 mod deep;
 mod deleted;
+mod edges;
+mod edited;
 mod example;
 mod full;
 mod honest;
@@ -24,6 +26,7 @@ pub type Play = fn(&mut Random, &mut Script);
 /// A kind's name and what plays it.
 pub type Kind = (&'static str, Play);
 
+/// The kinds whose scripts are kept.
 pub const KINDS: &[Kind] = &[
     ("example", example::play),
     ("honest", honest::play),
@@ -35,10 +38,19 @@ pub const KINDS: &[Kind] = &[
     ("deep", deep::play),
     ("deleted", deleted::play),
     ("reads", reads::play),
+    ("edges", edges::play),
     ("layout", layout::play),
     ("applied", applied::play),
     ("received", received::play),
 ];
+
+/// The kinds whose scripts are too long to be kept: they are made when they are played.
+pub const MADE: &[Kind] = &[("edited", edited::play)];
+
+/// Every kind.
+pub fn all() -> impl Iterator<Item = &'static Kind> {
+    KINDS.iter().chain(MADE)
+}
 
 /// The script of a kind, by chance as `random` now has it.
 pub fn script(play: Play, random: &Random) -> Vec<u8> {

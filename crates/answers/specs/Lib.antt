@@ -1,2 +1,0 @@
--- What contracts and proofs cite of `answers`, a file a subject.
-pub mod Fills

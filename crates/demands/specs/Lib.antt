@@ -1,0 +1,3 @@
+-- Theorems about the calls, a file a subject.
+pub mod Shared
+pub mod Delivered

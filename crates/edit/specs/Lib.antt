@@ -1,0 +1,2 @@
+-- What contracts and proofs cite of `edit`, a file a subject.
+pub mod Promises
