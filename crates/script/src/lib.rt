@@ -21,10 +21,10 @@ pub enum BlockFound {
 pub fn number(s: &[u8], a: usize, text: &[u8], most: u64) -> Asked
     ensures { λ r. ⌜ FindsNumber most (now (text .entry)) (now (s .entry)) a r ⌝ }
 {
-    let powers = decimal::powers();
     let Past::At(n) = readers::take_text(s, a, text) else {
         return Asked::Other;
     };
+    let powers = decimal::powers();
     let Number::Value { value, next } = decimal::take_decimal(s, n, most, &powers) else {
         return Asked::Other;
     };

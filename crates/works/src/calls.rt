@@ -133,7 +133,34 @@ fn edit(
 }
 
 // Reads keys, values or an element at the way of a block.
-fn read_at(
+
+fn keys_at(
+    text: &[u8],
+    heads: &[u64; HEADS],
+    keys: &[u64; KEYS],
+    p: Played,
+    buf: &mut [u8],
+) -> Played {
+    let Lent::Call {
+        from,
+        to,
+        other: _,
+        room,
+        next,
+    } = lent_of(text, p.at, b"keys ")
+    else {
+        return p;
+    };
+    if room > buf.len() {
+        return p;
+    }
+    let s = p.state;
+    let c = s.counts;
+    let r = reads::keys(heads, keys, c, part(text, from, to), &mut buf[..room]);
+    past(p, next, s, read(r))
+}
+
+fn values_at(
     text: &[u8],
     heads: &[u64; HEADS],
     keys: &[u64; KEYS],
@@ -141,62 +168,63 @@ fn read_at(
     p: Played,
     buf: &mut [u8],
 ) -> Played {
+    let Lent::Call {
+        from,
+        to,
+        other: _,
+        room,
+        next,
+    } = lent_of(text, p.at, b"values ")
+    else {
+        return p;
+    };
+    if room > buf.len() {
+        return p;
+    }
     let s = p.state;
     let c = s.counts;
-    if let Lent::Call {
-        from,
-        to,
-        other: _,
-        room,
-        next,
-    } = lent_of(text, p.at, b"keys ") {
-        if room > buf.len() {
-            return p;
-        }
-        let r = reads::keys(heads, keys, c, part(text, from, to), &mut buf[..room]);
-        return past(p, next, s, read(r));
-    }
-    if let Lent::Call {
-        from,
-        to,
-        other: _,
-        room,
-        next,
-    } = lent_of(text, p.at, b"values ") {
-        if room > buf.len() {
-            return p;
-        }
-        let r = reads::values(
-            heads,
-            keys,
-            values,
-            c,
-            part(text, from, to),
-            &mut buf[..room],
-        );
-        return past(p, next, s, read(r));
-    }
-    if let Lent::Call {
+    let r = reads::values(
+        heads,
+        keys,
+        values,
+        c,
+        part(text, from, to),
+        &mut buf[..room],
+    );
+    past(p, next, s, read(r))
+}
+
+fn element_at(
+    text: &[u8],
+    heads: &[u64; HEADS],
+    keys: &[u64; KEYS],
+    p: Played,
+    buf: &mut [u8],
+) -> Played {
+    let Lent::Call {
         from,
         to,
         other,
         room,
         next,
-    } = lent_with_number(text, p.at, b"element ") {
-        if room > buf.len() {
-            return p;
-        }
-        let r = reads::element(
-            heads,
-            keys,
-            c,
-            part(text, from, to),
-            other,
-            &mut buf[..room],
-        );
-        return past(p, next, s, read(r));
+    } = lent_with_number(text, p.at, b"element ")
+    else {
+        return p;
+    };
+    if room > buf.len() {
+        return p;
     }
-    p
+    let s = p.state;
+    let c = s.counts;
+    let r = reads::element(
+        heads,
+        keys,
+        c,
+        part(text, from, to),
+        other,
+        &mut buf[..room],
+    );
+    past(p, next, s, read(r))
 }
 
 // Saves.
@@ -231,7 +259,15 @@ fn save(
     past(p, next, s, saved(r))
 }
 
-// Makes the next call.
+// The byte of a script at a place, and 0 behind its end.
+fn byte_at(text: &[u8], i: usize) -> u8 {
+    if i < text.len() {
+        return text[i];
+    }
+    0
+}
+
+// Makes the next call, whose name its first letter tells; `edit` and `element` are told apart by trying.
 pub fn make_call(
     text: &[u8],
     heads: &mut [u64; HEADS],
@@ -242,17 +278,22 @@ pub fn make_call(
     p: Played,
     buf: &mut [u8],
 ) -> Played {
-    let r = receive(text, heads, keys, marks, values, waiting, p);
-    if p.at < r.at {
-        return r;
+    let first = byte_at(text, p.at);
+    if first == b'r' {
+        return receive(text, heads, keys, marks, values, waiting, p);
     }
-    let e = edit(text, heads, keys, marks, values, waiting, p, buf);
+    if first == b's' {
+        return save(text, heads, keys, marks, values, p, buf);
+    }
+    if first == b'k' {
+        return keys_at(text, heads, keys, p, buf);
+    }
+    if first == b'v' {
+        return values_at(text, heads, keys, values, p, buf);
+    }
+    let e = element_at(text, heads, keys, p, buf);
     if p.at < e.at {
         return e;
     }
-    let g = read_at(text, heads, keys, values, p, buf);
-    if p.at < g.at {
-        return g;
-    }
-    save(text, heads, keys, marks, values, p, buf)
+    edit(text, heads, keys, marks, values, waiting, p, buf)
 }

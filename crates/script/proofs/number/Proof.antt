@@ -14,7 +14,7 @@ returns c =
 returns-2 : tie.Need-returns-2
 returns-2 c =
     let at-take-decimal = c .before .before in
-    let at-n = at-take-decimal .before .before .before in
+    let at-n = at-take-decimal .before .before .before .before in
     no-number _ _ _ _ _ (text-took _ (at-n .n .given .1) (at-n .before .before .take-text .ensures))
     (number-none _ (c .enum-told2 .given .1) (at-take-decimal .take-decimal .ensures))
 
@@ -22,7 +22,7 @@ returns-3 : tie.Need-returns-3
 returns-3 c =
     let at-value = c .before in
     let at-take-decimal = at-value .before .before in
-    let at-n = at-take-decimal .before .before .before in
+    let at-n = at-take-decimal .before .before .before .before in
     a-number _ _ _ _ _ (text-took _ (at-n .n .given .1) (at-n .before .before .take-text .ensures))
     _ _ (number-took _ (at-value .value .given .1) (at-take-decimal .take-decimal .ensures))
 
@@ -31,10 +31,10 @@ number-spec =
     tie.close
     (tie.spec
     (λ c κs. search needs)
-    (λ c κs. search needs)
     (λ c. search needs)
     (λ c. search needs)
     returns
+    (λ c κs. search needs)
     (λ c κs. search needs)
     (λ c. search needs)
     (λ c. search needs)
