@@ -1,5 +1,5 @@
--- An edit's message, received by another terminal that holds the same document: it is the same operation, the other answers 0, and both keep
--- the document with it applied and what waits settled. If the same messages wait there, both keep the same words.
+-- An edit's message, received by another terminal that holds the same document: it is the same operation, the other answers 0, and both
+-- keep the document with it applied and what waits settled. If the same messages wait there, both keep the same words.
 -- Assumes nothing.
 use Prim.Native.Nat.{ℕ, suc}
 use mathlib.Core.Path.{_≡_, refl, sym, ap, _∙_, subst}

@@ -1,5 +1,5 @@
--- An edit that was applied, and a terminal that holds the same document as the one that edited: the bytes that the edit wrote are the message
--- of one operation, and receiving it applies it there too.
+-- An edit that was applied, and a terminal that holds the same document as the one that edited: the bytes that the edit wrote are the
+-- message of one operation, and receiving it applies it there too.
 -- Assumes nothing.
 use Prim.Native.Nat.{ℕ, suc}
 use mathlib.Core.Path.{_≡_, refl, sym, ap, _∙_, subst}

@@ -1,6 +1,6 @@
 -- What an edit promises: of memory that keeps a terminal, the answer, the terminal that it keeps afterwards and every byte of the caller's
--- buffer are document 01's; a state that counts more than has room in the tables is answered 10, whatever the edit; of any memory, a refusal
--- changes not one lent word or byte and no part of the state.
+-- buffer are document 01's; a state that counts more than has room in the tables is answered 10, whatever the edit; of any memory, a
+-- refusal changes not one lent word or byte and no part of the state.
 -- Assumes nothing: these are definitions.
 use Prim.Native.Nat.{ℕ, suc, _≤_}
 use mathlib.Core.Path.{_≡_}

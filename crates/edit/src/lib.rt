@@ -52,8 +52,8 @@ fn operation_of(seen: Counters, largest: u64, device: u64, e: EditRead) -> Opera
     Operation { act, way }
 }
 
-// An edit that may be applied, unless its message is too long for the buffer: it is applied from where the search for its first key stopped,
-// its message written, and the waiting ones are settled.
+// An edit that may be applied, unless its message is too long for the buffer: it is applied from where the search for its first key
+// stopped, its message is written, and the waiting ones are settled.
 fn finish(
     heads: &mut [u64; HEADS],
     keys: &mut [u64; KEYS],
@@ -68,9 +68,11 @@ fn finish(
 ) -> Outcome
     requires { ⌜ length (now lines) ≤ 463 ⌝ }
     ensures { λ r. ⌜ Finishes
-        (lent (four (now (heads .entry)) (now (keys .entry)) (now (marks .entry)) (now (values .entry))) (now (waiting .entry)) (now (buf .entry)))
+        (lent (four (now (heads .entry)) (now (keys .entry)) (now (marks .entry)) (now (values .entry)))
+        (now (waiting .entry)) (now (buf .entry)))
         s top op (now (lines .entry)) r
-        (lent (four (now (heads .exit)) (now (keys .exit)) (now (marks .exit)) (now (values .exit))) (now (waiting .exit)) (now (buf .exit))) ⌝ }
+        (lent (four (now (heads .exit)) (now (keys .exit)) (now (marks .exit)) (now (values .exit)))
+        (now (waiting .exit)) (now (buf .exit))) ⌝ }
 {
     let id = op.act.id;
     let deps = op.act.deps;
@@ -116,9 +118,11 @@ fn carry(
 ) -> Outcome
     requires { ⌜ length (now lines) ≤ 463 ⌝ }
     ensures { λ r. ⌜ Carries
-        (lent (four (now (heads .entry)) (now (keys .entry)) (now (marks .entry)) (now (values .entry))) (now (waiting .entry)) (now (buf .entry)))
+        (lent (four (now (heads .entry)) (now (keys .entry)) (now (marks .entry)) (now (values .entry)))
+        (now (waiting .entry)) (now (buf .entry)))
         s op (now (lines .entry)) r
-        (lent (four (now (heads .exit)) (now (keys .exit)) (now (marks .exit)) (now (values .exit))) (now (waiting .exit)) (now (buf .exit))) ⌝ }
+        (lent (four (now (heads .exit)) (now (keys .exit)) (now (marks .exit)) (now (values .exit)))
+        (now (waiting .exit)) (now (buf .exit))) ⌝ }
 {
     let c = s.counts;
     let top = judging::top_of(heads, keys, c.rows, op);
@@ -151,8 +155,8 @@ fn carry(
     }
 }
 
-// A local edit, given as the device's number and a message's lines from `at=` on. Its message fills the start of the buffer, and the rest is
-// untouched. A state that counts more than has room in the tables is answered 10.
+// A local edit, given as the device's number and a message's lines from `at=` on. Its message fills the start of the buffer, and the rest
+// is untouched. A state that counts more than has room in the tables is answered 10.
 pub fn edit(
     heads: &mut [u64; HEADS],
     keys: &mut [u64; KEYS],
@@ -165,9 +169,11 @@ pub fn edit(
     buf: &mut [u8],
 ) -> Outcome
     ensures { λ r. ⌜ Editing
-        (lent (four (now (heads .entry)) (now (keys .entry)) (now (marks .entry)) (now (values .entry))) (now (waiting .entry)) (now (buf .entry)))
+        (lent (four (now (heads .entry)) (now (keys .entry)) (now (marks .entry)) (now (values .entry)))
+        (now (waiting .entry)) (now (buf .entry)))
         s device (now (lines .entry)) r
-        (lent (four (now (heads .exit)) (now (keys .exit)) (now (marks .exit)) (now (values .exit))) (now (waiting .exit)) (now (buf .exit))) ⌝ }
+        (lent (four (now (heads .exit)) (now (keys .exit)) (now (marks .exit)) (now (values .exit)))
+        (now (waiting .exit)) (now (buf .exit))) ⌝ }
 {
     if !keeping::within(s) {
         return Outcome {

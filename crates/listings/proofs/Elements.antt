@@ -31,6 +31,16 @@ use Rattle.listings.specs.Lists.{Under}
 use Rattle.listings.proofs.Tests.{listed-row}
 use Rattle.listings.proofs.Places.{behind-one, one-on, under-count}
 
+-- How many are still to be counted behind a row: one less, if it is an element that counts.
+
+pub still-less : (d n : ℕ) (h : Head) → isListed d 1 h ≡ true → n - 1 ≡ stillOf d h n
+unfolding stillOf
+still-less d n h e = rw e
+
+pub still-same : (d n : ℕ) (h : Head) → isListed d 1 h ≡ false → n ≡ stillOf d h n
+unfolding stillOf
+still-same d n h e = rw e
+
 -- On the way over the rows from row i on: n elements are still to be counted.
 module _ (heads : List ℕ) (rows from d index : ℕ) where
   pub record Counting (i left n : ℕ) : Type 0 where

@@ -8,6 +8,7 @@ use lib.ListN.{length, length-append}
 use Rattle.meaning.specs.Places.{Place}
 use Rattle.meaning.specs.Sheet.{Row, rows}
 use Rattle.tables.specs.Holding.{headsRoom, Holds, four}
+use Rattle.tables.specs.Parts.{heads-long}
 use Rattle.tables.specs.declared.Counts.{Counts}
 use Rattle.listings.specs.Lists.{Under}
 
@@ -26,3 +27,7 @@ module _ {h k : List ℕ} {count from d : ℕ} {p : Place} (u : Under h k count 
 
   pub under-count : from + length (rows (suc d) p ++ u .later) ≡ count
   under-count = omega (arith, u .counted, u .holds .rows-are, u .here, length-append (u .ahead) (rows (suc d) p ++ u .later))
+
+  -- the table of heads has its whole room
+  pub under-long : length h ≡ headsRoom
+  under-long = heads-long (four h k (u .marks) (u .values)) (u .counts) (u .ahead ++ (rows (suc d) p ++ u .later)) (u .holds)

@@ -111,6 +111,9 @@ pub fn element(
     if rows > ROWS_ROOM {
         return Reading::NotThere;
     }
+    if rows > heads.len() {
+        return Reading::NotThere;
+    }
     if from > rows {
         return Reading::NotThere;
     }

@@ -1,5 +1,5 @@
--- The promises of `script` settle its answers: two answers that meet one are equal, `number-once` and `block-once`. (What `part` promises is
--- an equation.)
+-- The promises of `script` settle its answers: two answers that meet one are equal, `number-once` and `block-once`. (What `part` promises
+-- is an equation.)
 -- Assumes nothing.
 use Prim.Native.Nat.{ℕ, _+_, _-_, _≤_, _<_}
 use native.Mathlib.Omega.{arith}

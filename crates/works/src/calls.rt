@@ -1,4 +1,4 @@
-// The calls of a turn, each made if it is the next one; where it isn't, nothing is done and the place stays.
+// The calls of a turn: found in the script once, kept as words, and made in each turn.
 use keeping::State;
 use meaning::Edited;
 use meaning::Reading;
@@ -16,35 +16,169 @@ use tables::HEADS;
 use tables::KEYS;
 use tables::MARKS;
 use tables::VALUES;
+use tables::word;
 use waiting::WAITING;
 
-// Where the next call stands, the terminal's state, and the bytes that were written last.
+// The most calls of a turn, and the words that keep them, five for each.
+const MOST: usize = 512;
+
+pub const CALLS: usize = 2560;
+
+// What a call is.
+pub const RECEIVE: u64 = 1;
+
+const EDIT: u64 = 2;
+
+const READ_KEYS: u64 = 3;
+
+const READ_VALUES: u64 = 4;
+
+const ELEMENT: u64 = 5;
+
+const SAVE: u64 = 6;
+
+// A call in the script: what it is (0 if there is none), where its block stands, the number behind the block's, the buffer's size, and
+// where the next call begins.
+pub struct Found {
+    pub what: u64,
+    pub from: usize,
+    pub to: usize,
+    pub other: u64,
+    pub room: usize,
+    pub next: usize,
+}
+
+// The terminal's state, and the bytes of the last call that wrote any.
 pub struct Played {
-    pub at: usize,
     pub state: State,
     pub written: usize,
 }
 
-// Receives the message of a block.
-pub fn receive(
-    text: &[u8],
-    heads: &mut [u64; HEADS],
-    keys: &mut [u64; KEYS],
-    marks: &mut [u64; MARKS],
-    values: &mut [u64; VALUES],
-    waiting: &mut [u64; WAITING],
-    p: Played,
-) -> Played {
-    let BlockFound::Bytes { from, to, next } = block_of(text, p.at, b"receive ") else {
-        return p;
-    };
-    let s = p.state;
-    let r = terminal::receive(heads, keys, marks, values, waiting, s, part(text, from, to));
-    let state = r.state;
-    Played {
-        at: next,
-        state,
-        written: p.written,
+fn lent_call(what: u64, l: Lent, a: usize) -> Found {
+    if let Lent::Call {
+        from,
+        to,
+        other,
+        room,
+        next,
+    } = l {
+        return Found {
+            what,
+            from,
+            to,
+            other,
+            room,
+            next,
+        };
+    }
+    Found {
+        what: 0,
+        from: 0,
+        to: 0,
+        other: 0,
+        room: 0,
+        next: a,
+    }
+}
+
+fn save_call(text: &[u8], a: usize) -> Found {
+    if let Asked::Number { value, next: end } = script::number(
+        text,
+        a,
+        b"save ",
+        LONGEST_BUFFER as u64,
+    ) {
+        if let Past::At(next) = readers::take_byte(text, end, b'\n') {
+            return Found {
+                what: SAVE,
+                from: 0,
+                to: 0,
+                other: 0,
+                room: value as usize,
+                next,
+            };
+        }
+    }
+    Found {
+        what: 0,
+        from: 0,
+        to: 0,
+        other: 0,
+        room: 0,
+        next: a,
+    }
+}
+
+// The call at a place of the script.
+pub fn find(text: &[u8], a: usize) -> Found {
+    if let BlockFound::Bytes { from, to, next } = block_of(text, a, b"receive ") {
+        return Found {
+            what: RECEIVE,
+            from,
+            to,
+            other: 0,
+            room: 0,
+            next,
+        };
+    }
+    let k = lent_call(READ_KEYS, lent_of(text, a, b"keys "), a);
+    if k.what != 0 {
+        return k;
+    }
+    let v = lent_call(READ_VALUES, lent_of(text, a, b"values "), a);
+    if v.what != 0 {
+        return v;
+    }
+    let e = lent_call(EDIT, lent_with_number(text, a, b"edit "), a);
+    if e.what != 0 {
+        return e;
+    }
+    let n = lent_call(ELEMENT, lent_with_number(text, a, b"element "), a);
+    if n.what != 0 {
+        return n;
+    }
+    save_call(text, a)
+}
+
+// Finds the calls from a place on, and says how many there are; no more than have room.
+pub fn find_all(text: &[u8], a: usize, t: &mut [u64; CALLS]) -> usize {
+    let mut at = a;
+    let mut n: usize = 0;
+    while n < MOST {
+        let f = find(text, at);
+        if f.what == 0 {
+            return n;
+        }
+        t[5 * n] = f.what;
+        t[5 * n + 1] = f.from as u64;
+        t[5 * n + 2] = f.to as u64;
+        t[5 * n + 3] = f.other;
+        t[5 * n + 4] = f.room as u64;
+        at = f.next;
+        n += 1;
+    }
+    n
+}
+
+// Call n of those that were found.
+fn call_at(t: &[u64; CALLS], n: usize) -> Found {
+    if n >= MOST {
+        return Found {
+            what: 0,
+            from: 0,
+            to: 0,
+            other: 0,
+            room: 0,
+            next: 0,
+        };
+    }
+    Found {
+        what: word(t, 5 * n),
+        from: word(t, 5 * n + 1) as usize,
+        to: word(t, 5 * n + 2) as usize,
+        other: word(t, 5 * n + 3),
+        room: word(t, 5 * n + 4) as usize,
+        next: 0,
     }
 }
 
@@ -76,200 +210,45 @@ fn read(r: Reading) -> usize {
 }
 
 // Behind a call that wrote so many bytes.
-fn past(p: Played, next: usize, state: State, written: usize) -> Played {
+fn past(p: Played, state: State, written: usize) -> Played {
     if written == 0 {
         return Played {
-            at: next,
             state,
             written: p.written,
         };
     }
-    Played {
-        at: next,
-        state,
-        written,
-    }
+    Played { state, written }
 }
 
-// Edits with the lines of a block.
-fn edit(
-    text: &[u8],
-    heads: &mut [u64; HEADS],
-    keys: &mut [u64; KEYS],
-    marks: &mut [u64; MARKS],
-    values: &mut [u64; VALUES],
-    waiting: &mut [u64; WAITING],
-    p: Played,
-    buf: &mut [u8],
-) -> Played {
-    let Lent::Call {
-        from,
-        to,
-        other,
-        room,
-        next,
-    } = lent_with_number(text, p.at, b"edit ")
-    else {
-        return p;
-    };
-    if room > buf.len() {
-        return p;
-    }
-    let s = p.state;
-    let r = edit::edit(
-        heads,
-        keys,
-        marks,
-        values,
-        waiting,
-        s,
-        other,
-        part(text, from, to),
-        &mut buf[..room],
-    );
-    let answer = r.answer;
-    let state = r.state;
-    past(p, next, state, edited(answer))
-}
-
-// Reads keys, values or an element at the way of a block.
-
-fn keys_at(
-    text: &[u8],
-    heads: &[u64; HEADS],
-    keys: &[u64; KEYS],
-    p: Played,
-    buf: &mut [u8],
-) -> Played {
-    let Lent::Call {
-        from,
-        to,
-        other: _,
-        room,
-        next,
-    } = lent_of(text, p.at, b"keys ")
-    else {
-        return p;
-    };
-    if room > buf.len() {
-        return p;
-    }
-    let s = p.state;
-    let c = s.counts;
-    let r = reads::keys(heads, keys, c, part(text, from, to), &mut buf[..room]);
-    past(p, next, s, read(r))
-}
-
-fn values_at(
-    text: &[u8],
-    heads: &[u64; HEADS],
-    keys: &[u64; KEYS],
-    values: &[u64; VALUES],
-    p: Played,
-    buf: &mut [u8],
-) -> Played {
-    let Lent::Call {
-        from,
-        to,
-        other: _,
-        room,
-        next,
-    } = lent_of(text, p.at, b"values ")
-    else {
-        return p;
-    };
-    if room > buf.len() {
-        return p;
-    }
-    let s = p.state;
-    let c = s.counts;
-    let r = reads::values(
-        heads,
-        keys,
-        values,
-        c,
-        part(text, from, to),
-        &mut buf[..room],
-    );
-    past(p, next, s, read(r))
-}
-
-fn element_at(
-    text: &[u8],
-    heads: &[u64; HEADS],
-    keys: &[u64; KEYS],
-    p: Played,
-    buf: &mut [u8],
-) -> Played {
-    let Lent::Call {
-        from,
-        to,
-        other,
-        room,
-        next,
-    } = lent_with_number(text, p.at, b"element ")
-    else {
-        return p;
-    };
-    if room > buf.len() {
-        return p;
-    }
-    let s = p.state;
-    let c = s.counts;
-    let r = reads::element(
-        heads,
-        keys,
-        c,
-        part(text, from, to),
-        other,
-        &mut buf[..room],
-    );
-    past(p, next, s, read(r))
-}
-
-// Saves.
-fn save(
-    text: &[u8],
+// The reads and `save`, into a buffer that is lent.
+fn read_into(
     heads: &[u64; HEADS],
     keys: &[u64; KEYS],
     marks: &[u64; MARKS],
     values: &[u64; VALUES],
-    p: Played,
+    s: State,
+    f: Found,
+    way: &[u8],
     buf: &mut [u8],
-) -> Played {
-    let Asked::Number { value, next: end } = script::number(
-        text,
-        p.at,
-        b"save ",
-        LONGEST_BUFFER as u64,
-    ) else {
-        return p;
-    };
-    let Past::At(next) = readers::take_byte(text, end, b'\n') else {
-        return p;
-    };
-    let n = value as usize;
-    if n > buf.len() {
-        return p;
+) -> usize {
+    let c = s.counts;
+    if f.what == READ_KEYS {
+        return read(reads::keys(heads, keys, c, way, buf));
     }
-    let s = p.state;
-    let counts = s.counts;
+    if f.what == READ_VALUES {
+        return read(reads::values(heads, keys, values, c, way, buf));
+    }
+    if f.what == ELEMENT {
+        return read(reads::element(heads, keys, c, way, f.other, buf));
+    }
     let seen = s.seen;
-    let r = sheet::save(heads, keys, marks, values, counts, seen, &mut buf[..n]);
-    past(p, next, s, saved(r))
+    saved(sheet::save(heads, keys, marks, values, c, seen, buf))
 }
 
-// The byte of a script at a place, and 0 behind its end.
-fn byte_at(text: &[u8], i: usize) -> u8 {
-    if i < text.len() {
-        return text[i];
-    }
-    0
-}
-
-// Makes the next call, whose name its first letter tells; `edit` and `element` are told apart by trying.
-pub fn make_call(
+// Makes a call.
+fn make_call(
     text: &[u8],
+    f: Found,
     heads: &mut [u64; HEADS],
     keys: &mut [u64; KEYS],
     marks: &mut [u64; MARKS],
@@ -278,22 +257,56 @@ pub fn make_call(
     p: Played,
     buf: &mut [u8],
 ) -> Played {
-    let first = byte_at(text, p.at);
-    if first == b'r' {
-        return receive(text, heads, keys, marks, values, waiting, p);
+    let s = p.state;
+    let block = part(text, f.from, f.to);
+    if f.what == RECEIVE {
+        let r = terminal::receive(heads, keys, marks, values, waiting, s, block);
+        let state = r.state;
+        return past(p, state, 0);
     }
-    if first == b's' {
-        return save(text, heads, keys, marks, values, p, buf);
+    let room = f.room;
+    if room > buf.len() {
+        return p;
     }
-    if first == b'k' {
-        return keys_at(text, heads, keys, p, buf);
+    if f.what == EDIT {
+        let r = edit::edit(
+            heads,
+            keys,
+            marks,
+            values,
+            waiting,
+            s,
+            f.other,
+            block,
+            &mut buf[..room],
+        );
+        let answer = r.answer;
+        let state = r.state;
+        return past(p, state, edited(answer));
     }
-    if first == b'v' {
-        return values_at(text, heads, keys, values, p, buf);
+    let n = read_into(heads, keys, marks, values, s, f, block, &mut buf[..room]);
+    past(p, s, n)
+}
+
+// Makes the first n of the calls that were found.
+pub fn make_all(
+    text: &[u8],
+    t: &[u64; CALLS],
+    n: usize,
+    heads: &mut [u64; HEADS],
+    keys: &mut [u64; KEYS],
+    marks: &mut [u64; MARKS],
+    values: &mut [u64; VALUES],
+    waiting: &mut [u64; WAITING],
+    start: Played,
+    buf: &mut [u8],
+) -> Played {
+    let mut p = start;
+    let mut i: usize = 0;
+    while i < n {
+        let f = call_at(t, i);
+        p = make_call(text, f, heads, keys, marks, values, waiting, p, buf);
+        i += 1;
     }
-    let e = element_at(text, heads, keys, p, buf);
-    if p.at < e.at {
-        return e;
-    }
-    edit(text, heads, keys, marks, values, waiting, p, buf)
+    p
 }

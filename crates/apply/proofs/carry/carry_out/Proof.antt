@@ -3,9 +3,6 @@ use borrow.Author.Needs.{needs}
 use Rattle.apply.proofs.carry.carry_out.Statement.{statement}
 use Rattle.apply.proofs.carry.carry_out.Tie as tie
 
-returns : tie.Need-returns
-returns c = c .before .before .before .before .before .before .before .before .carry-way .ensures
-
 pub carry-out-spec : {M : Type 1} → statement M
 carry-out-spec =
     tie.close
@@ -16,4 +13,4 @@ carry-out-spec =
     (λ c. search needs)
     (λ c. search needs)
     (λ c. search needs)
-    returns)
+    (λ c. c .before .before .before .before .before .before .before .before .carry-way .ensures))
