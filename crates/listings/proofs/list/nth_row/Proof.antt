@@ -39,16 +39,6 @@ returns c =
     counting-stop (start .args .heads .now) (start .args .rows) (start .args .from) (start .args .depth) (start .args .index)
     (at-loop .loop .inv) (at-test .loop-test .taken) (at-head .head-in .ensures) (c .if1 .taken)
 
-sub-n : tie.Need-sub-n Inv-loop μ-loop
-sub-n c =
-    let at-listed = c .before in
-    let at-deeper = at-listed .before in
-    let at-head = at-deeper .before .before in
-    let at-test = at-head .before .before in
-    let at-loop = at-test .before in
-    let start = at-loop .before .before in
-    omega (arith, at-loop .loop .inv .some)
-
 returns-2 : tie.Need-returns-2 Inv-loop μ-loop
 returns-2 c =
     let at-listed = c .before .before in
@@ -63,33 +53,16 @@ returns-2 c =
 
 add-i : tie.Need-add-i Inv-loop μ-loop
 add-i c =
-    let at-listed = c .before .before in
-    let at-deeper = at-listed .before in
-    let at-head = at-deeper .before .before in
-    let at-test = at-head .before .before in
-    let at-loop = at-test .before in
-    let start = at-loop .before .before in
-    omega (arith, at-loop .loop .inv .few, start .pre .1)
+    let at-loop = c .before .before .before .before .before .before .before .before in
+    omega (arith, at-loop .loop .inv .few, at-loop .before .before .pre .1)
 
 sub-left-2 : tie.Need-sub-left-2 Inv-loop μ-loop
 sub-left-2 c =
-    let at-listed = c .before .before in
-    let at-deeper = at-listed .before in
-    let at-head = at-deeper .before .before in
-    let at-test = at-head .before .before in
-    let at-loop = at-test .before in
-    let start = at-loop .before .before in
-    omega (arith, at-test .loop-test .taken)
+    omega (arith, c .before .before .before .before .before .before .before .loop-test .taken)
 
 loop-less : tie.Need-loop-less Inv-loop μ-loop
 loop-less c =
-    let at-listed = c .before .before in
-    let at-deeper = at-listed .before in
-    let at-head = at-deeper .before .before in
-    let at-test = at-head .before .before in
-    let at-loop = at-test .before in
-    let start = at-loop .before .before in
-    omega (arith, at-test .loop-test .taken)
+    omega (arith, c .before .before .before .before .before .before .before .loop-test .taken)
 
 loop-again : tie.Need-loop-again Inv-loop μ-loop
 loop-again c =
@@ -105,33 +78,8 @@ loop-again c =
 
 add-i-2 : tie.Need-add-i-2 Inv-loop μ-loop
 add-i-2 c =
-    let at-listed = c .before in
-    let at-deeper = at-listed .before in
-    let at-head = at-deeper .before .before in
-    let at-test = at-head .before .before in
-    let at-loop = at-test .before in
-    let start = at-loop .before .before in
-    omega (arith, at-loop .loop .inv .few, start .pre .1)
-
-sub-left-3 : tie.Need-sub-left-3 Inv-loop μ-loop
-sub-left-3 c =
-    let at-listed = c .before in
-    let at-deeper = at-listed .before in
-    let at-head = at-deeper .before .before in
-    let at-test = at-head .before .before in
-    let at-loop = at-test .before in
-    let start = at-loop .before .before in
-    omega (arith, at-test .loop-test .taken)
-
-loop-less-2 : tie.Need-loop-less-2 Inv-loop μ-loop
-loop-less-2 c =
-    let at-listed = c .before in
-    let at-deeper = at-listed .before in
-    let at-head = at-deeper .before .before in
-    let at-test = at-head .before .before in
-    let at-loop = at-test .before in
-    let start = at-loop .before .before in
-    omega (arith, at-test .loop-test .taken)
+    let at-loop = c .before .before .before .before .before .before .before in
+    omega (arith, at-loop .loop .inv .few, at-loop .before .before .pre .1)
 
 loop-again-2 : tie.Need-loop-again-2 Inv-loop μ-loop
 loop-again-2 c =
@@ -163,14 +111,14 @@ nth-row-spec =
     (λ c κs. search needs)
     returns
     (λ c κs. search needs)
-    sub-n
+    (λ c. omega (arith, c .before .before .before .before .before .before .before .loop .inv .some))
     returns-2
     add-i
     sub-left-2
     loop-less
     loop-again
     add-i-2
-    sub-left-3
-    loop-less-2
+    (λ c. omega (arith, c .before .before .before .before .before .before .loop-test .taken))
+    (λ c. omega (arith, c .before .before .before .before .before .before .loop-test .taken))
     loop-again-2
     returns-3)
