@@ -34,7 +34,7 @@ block_does T U c e A R us ws r q x y H N l m v mq vq = record {
     length-append us R,
     length-append ws R,
   );
-  marks-more = omega (
+  marks_more = omega (
     arith,
     H.marks_are,
     N.marks_are,
@@ -43,7 +43,7 @@ block_does T U c e A R us ws r q x y H N l m v mq vq = record {
     marks_append us R,
     marks_append ws R,
   );
-  values-more = omega (
+  values_more = omega (
     arith,
     H.values_are,
     N.values_are,

@@ -81,12 +81,12 @@ module _ (i : ℕ) (d : List ℕ) (g : Given) (ws : List ℕ) (n : ℕ) (s : Pos
   give_plain a e p' h₁ h' m' v' kind parts q ek ep M X k A R r (plain x) H t va eg ew f some p =
       let r₁ = mark_row i r in
       let r₂ = add_row i x (drop_row d r₁) in
-      let L = M k m v A R r (holds_gap n _ c _ H p.marks-spare) H t f.0 (omega (arith, some, p.marks-spare)) some
-      (placed _ c s A R r H t).marks-low in
+      let L = M k m v A R r (holds_gap n _ c _ H p.marks_spare) H t f.0 (omega (arith, some, p.marks_spare)) some
+      (placed _ c s A R r H t).marks_low in
       let m₁ = L.table in
       let L₁ = row_does _ _ c a A R r r₁ 1 0 H L.is (marked_more i r) (omega arith) in
       let w : plain_words x ≡ kind ∷ parts = held_plain x va ∙ rw (ek, ep, eg, ew) in
-      let N = X k m₁ A R r₁ x L.is t (fresh_clear_values d r i f.1) (omega (arith, L₁.values_more, p.values-spare)) w in
+      let N = X k m₁ A R r₁ x L.is t (fresh_clear_values d r i f.1) (omega (arith, L₁.values_more, p.values_spare)) w in
       let l : length r₂.values ≤ length r.values + 1 =
       omega (arith, put_length id_of_value (record { id = i; val = x }) (drop_row d r₁).values, clear_values-length d r) in
       let J = row_does _ _ c e A R r r₂ 1 1 H N (marked_more i r) l in
@@ -110,9 +110,9 @@ module _ (i : ℕ) (d : List ℕ) (g : Given) (ws : List ℕ) (n : ℕ) (s : Pos
         let X = map (clear_row d) us ++ rest (deeper r.depth) R in
         let q = mark_row i (clear_row d r) in
         let N₁ = C.holds k A R r H t in
-        let L = M k m₁ v' A X (clear_row d r) (holds_gap n _ a _ N₁ (omega (arith, C.marks_fewer, p.marks-spare))) N₁ t
-        (fresh_clear d r.marks i f.0) (omega (arith, some, C.marks_fewer, p.marks-spare)) some
-        (placed _ a s A X (clear_row d r) N₁ t).marks-low in
+        let L = M k m₁ v' A X (clear_row d r) (holds_gap n _ a _ N₁ (omega (arith, C.marks_fewer, p.marks_spare))) N₁ t
+        (fresh_clear d r.marks i f.0) (omega (arith, some, C.marks_fewer, p.marks_spare)) some
+        (placed _ a s A X (clear_row d r) N₁ t).marks_low in
         let N₃ = F k L.table v' e A X q L.is (at-behind s A t).row in
         let H' = subst (λ X. Holds (four h k m v) c (A ++ r ∷ X)) (sym (passed-rest (deeper r.depth) R)) H in
         let B = clears_rows d us in
@@ -158,8 +158,8 @@ module _ (o : Act) (n : ℕ) (s : Position) (c e : Counts) (h m v h' m' v' : Lis
       (leaves_still 0 s _ e A _ _ N b (omega (arith, N.marks_fit)) (record {
         holds = N;
         rows_more = omega (arith, C.rows_same);
-        marks-more = omega (arith, C.marks_fewer);
-        values-more = omega (arith, C.values_fewer);
+        marks_more = omega (arith, C.marks_fewer);
+        values_more = omega (arith, C.values_fewer);
       }))
   finish_clear t C k A R r (insert q a) H b z va d ws f some p = absurd (true≢false (sym t ∙ ap is_delete d))
   finish_clear t C k A R r (into_map j w) H b z va d ws f some p = absurd (no_words (into_map j w) tt z)

@@ -28,11 +28,11 @@ module _ (o : Act) (n hi len : ℕ) (from : Position) (c : Counts) (h k m v : Li
   pub insert_stays : x.there ≡ false → Inserts o n hi len from c (four h k m v) c c.marks (four h k m v)
   insert_stays t A B p a H b w va ed ew nd f some sp =
       let N : SitsNot n o.id p B = no _ _ x.there t (S m v c A B p H refl b w) in
-      leaves_still (n - 1) from _ c A B _ H b (omega (arith, sp.marks-spare)) (record {
+      leaves_still (n - 1) from _ c A B _ H b (omega (arith, sp.marks_spare)) (record {
         holds = subst (λ R. Holds (four h k m v) c (A ++ R)) (sym (N _)) H;
         rows_more = omega arith;
-        marks-more = omega arith;
-        values-more = omega arith;
+        marks_more = omega arith;
+        values_more = omega arith;
       })
 
   pub insert_new : (e₁ e : Counts) (p' : ℕ) (h₁ h' k' m' v' : List ℕ) (g : Given) → x.there ≡ true
@@ -47,12 +47,12 @@ module _ (o : Act) (n hi len : ℕ) (from : Position) (c : Counts) (h k m v : Li
       let r = new_row n (in_list o.id) in
       let q : A ++ B ≡ (A ++ P) ++ Y = ap (A ++◌) s.rows ∙ sym (append_assoc A P Y) in
       let H₁ = subst (Holds (four h k m v) c) q H in
-      let N₁ = O m v (A ++ P) Y (in_list o.id) H₁ (at-behind x.at _ s.at).row (omega (arith, sp.rows-spare)) nd tt refl refl in
+      let N₁ = O m v (A ++ P) Y (in_list o.id) H₁ (at-behind x.at _ s.at).row (omega (arith, sp.rows_spare)) nd tt refl refl in
       let Z = opened_counts _ _ c e₁ (A ++ P) Y n (in_list o.id) H₁ N₁ in
       let L = G k' (A ++ P) Y r a N₁ s.at va (eg ∙ ap given_in ed) ew ((λ u. u), (λ u. u), tt) some (record {
-        rows-spare = omega (arith, Z.rows, sp.rows-spare);
-        marks-spare = omega (arith, Z.marks, sp.marks-spare);
-        values-spare = omega (arith, Z.values, sp.values-spare);
+        rows_spare = omega (arith, Z.rows, sp.rows_spare);
+        marks_spare = omega (arith, Z.marks, sp.marks_spare);
+        values_spare = omega (arith, Z.values, sp.values_spare);
       }) in
       let J = L.is in
       let new : List Row → List Row = λ us. join (give_block o.id o.deps.at a (record { own = r; under = us })) in
@@ -66,7 +66,7 @@ module _ (o : Act) (n hi len : ℕ) (from : Position) (c : Counts) (h k m v : Li
         is = record {
           holds = subst (Holds (four h' k' L.table v') e) y J.holds;
           rows_more = omega (arith, J.rows_more, Z.rows);
-          marks-more = omega (arith, J.marks_more, Z.marks);
-          values-more = omega (arith, J.values_more, Z.values);
+          marks_more = omega (arith, J.marks_more, Z.marks);
+          values_more = omega (arith, J.values_more, Z.values);
         };
       }

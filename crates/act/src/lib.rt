@@ -1,5 +1,7 @@
 // Document 01, "Applying an operation": what is done at the way's end, on the tables, in place: assign, insert, delete. Each function is
 // safe on any memory.
+#![tactic(auto)]
+
 ghost use Rattle.tables.specs.Holding.{four};
 ghost use Rattle.act.specs.Acting.{Gives, Finishes, Inserts};
 

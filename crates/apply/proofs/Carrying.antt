@@ -80,9 +80,9 @@ module _ (T U : Tables) (c e : Counts) (s : Position) (op : Operation) where
       let d = X (passed over-it (rows_of D)) (rest over-it (rows_of D)) (whole o) H t (part ∙ way_part op o m val)
       (val.edit.first, val.edit.rest) (deed_whole op o m val) (value_whole o m) (omega (arith, r))
       (fresh_parts a.id over-it (rows_of D) f).1 (omega arith) (record {
-        rows-spare = omega (arith, r, l.places, S.rows.rows_are);
-        marks-spare = omega (arith, r, l.marks, S.rows.marks-are);
-        values-spare = omega (arith, l.values, S.rows.values-are);
+        rows_spare = omega (arith, r, l.places, S.rows.rows_are);
+        marks_spare = omega (arith, r, l.marks, S.rows.marks_are);
+        values_spare = omega (arith, l.values, S.rows.values_are);
       }) in
       let none : marks_by a.deed 0 ≡ 0 = omega (arith, marks_most a.deed 0) in
       let shut : d.table ≡ U.marks =

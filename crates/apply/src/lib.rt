@@ -1,5 +1,7 @@
 // Document 01, "Applying an operation" and "What is answered": an operation judged on the document as it stands, before anything is
 // changed, and then carried out.
+#![tactic(auto)]
+
 mod carry;
 
 ghost use Rattle.tables.specs.Holding.{four};
@@ -11,7 +13,7 @@ use meaning::Counters;
 use message::Operation;
 use tables::{Counts, Position};
 
-#[derive(Drop)]
+#[derive(Clone, Copy)]
 pub struct Outcome {
     pub answer: Judgement,
     pub counts: Counts,
@@ -19,7 +21,7 @@ pub struct Outcome {
 }
 
 // The document's counts and counters after an operation that was taken.
-#[derive(Drop)]
+#[derive(Clone, Copy)]
 pub struct Later {
     pub counts: Counts,
     pub seen: Counters,

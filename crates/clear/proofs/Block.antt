@@ -65,10 +65,10 @@ begin s = record { row = s.row; mark = s.mark; marked = s.mark; value = s.value 
 pub record Sits (h m v : List ℕ) (c : Counts) (s : Position) : Type 0 where
   pub rows_in : c.rows ≤ length h
   pub row_in : s.row < c.rows
-  pub marks_in_lem : c.marks ≤ length m
+  pub marks_in : c.marks ≤ length m
   pub mark_in : s.mark ≤ c.marks
-  pub values_in_lem : c.values ≤ length v / 6
-  pub value_in_lem : s.value ≤ c.values
+  pub values_in : c.values ≤ length v / 6
+  pub value_in : s.value ≤ c.values
 
 module _ (h m v : List ℕ) (c : Counts) (s : Position) (k : List ℕ) (A R : List Row) (r : Row) (H : Holds (four h k m v) c (A ++ r ∷ R))
     (e : s ≡ behind A) where
@@ -78,9 +78,9 @@ module _ (h m v : List ℕ) (c : Counts) (s : Position) (k : List ℕ) (A R : Li
       record {
         rows_in = omega (arith, heads_long (four h k m v) c (A ++ r ∷ R) H, H.rows_fit);
         row_in = omega (arith, a.row, H.rows_are, length-append A (r ∷ R));
-        marks-in = omega (arith, marks_long (four h k m v) c (A ++ r ∷ R) H, H.marks_fit);
-        mark-in = omega (arith, a.mark, H.marks_are, marks_append A (r ∷ R));
-        values-in = omega (arith, values_long (four h k m v) c (A ++ r ∷ R) H, H.values_fit);
+        marks_in = omega (arith, marks_long (four h k m v) c (A ++ r ∷ R) H, H.marks_fit);
+        mark_in = omega (arith, a.mark, H.marks_are, marks_append A (r ∷ R));
+        values_in = omega (arith, values_long (four h k m v) c (A ++ r ∷ R) H, H.values_fit);
         value_in = omega (arith, a.value, H.values_are, values-append A (r ∷ R));
       }
 
@@ -92,7 +92,7 @@ module _ (h m v : List ℕ) (c : Counts) (s : Position) (k : List ℕ) (A R : Li
       let l : length (values_of (A ++ r ∷ R)) ≡ c.values * 6 = values_length (A ++ r ∷ R) ∙ ap (◌* 6) (sym H.values_are) in
       record {
         gap = [];
-        gap-values = [];
+        gap_values = [];
         heads = H.heads ∙ ap (λ n. heads_of (A ++ r ∷ R) ++ replicate (heads_room - n) 0) i;
         marks = H.marks
             ∙ (ap (λ n. marks_of (A ++ r ∷ R) ++ replicate (marks_room - n) 0) j
@@ -106,15 +106,15 @@ module _ (h m v : List ℕ) (c : Counts) (s : Position) (k : List ℕ) (A R : Li
         marked-is = a.mark ∙ sym (marks_length A);
         mark-is = omega arith;
         valued-is = omega (arith, a.value, values_length A);
-        value-is = omega arith;
+        value_is = omega arith;
         rows_are = H.rows_are ∙ length-append A (r ∷ R);
-        marks-are = omega (arith, a.mark, marks_length (r ∷ R), marks_append A (r ∷ R), H.marks_are);
-        values-are = omega (arith, a.value, values_length (r ∷ R), values-append A (r ∷ R), H.values_are);
+        marks_are = omega (arith, a.mark, marks_length (r ∷ R), marks_append A (r ∷ R), H.marks_are);
+        values_are = omega (arith, a.value, values_length (r ∷ R), values-append A (r ∷ R), H.values_are);
         rows_fit = H.rows_fit;
-        marks-fit = H.marks_fit;
-        values-fit = H.values_fit;
-        good-before = all_left Good A (r ∷ R) H.good;
-        good-behind = all_right Good A (r ∷ R) H.good;
+        marks_fit = H.marks_fit;
+        values_fit = H.values_fit;
+        good_before = all_left Good A (r ∷ R) H.good;
+        good_behind = all_right Good A (r ∷ R) H.good;
       }
 
 -- the counts behind a pass
@@ -166,11 +166,11 @@ module _ (c : Counts) (y : Pass) (B us : List Row) (G : Gaps c y B us) where
         marks = f ∙ marks_closed;
         values = g ∙ values-closed;
         rows_are = G.rows_are ∙ sym (length-append B us);
-        marks-are = omega (arith, G.marked-is, G.mark-is, G.marks_are);
-        values-are = omega (arith, G.valued-is, G.value_is, G.values_are);
+        marks_are = omega (arith, G.marked-is, G.mark-is, G.marks_are);
+        values_are = omega (arith, G.valued-is, G.value_is, G.values_are);
         rows_fit = G.rows_fit;
-        marks-fit = omega (arith, G.marks_fit);
-        values-fit = omega (arith, G.values_fit);
+        marks_fit = omega (arith, G.marks_fit);
+        values_fit = omega (arith, G.values_fit);
         good = all_both Good B us G.good_before G.good_behind;
       }
 
@@ -182,8 +182,8 @@ module _ (d h m v : List ℕ) (c : Counts) (s : Position) where
   refused h' m' v' f = record {
     holds = λ k A R r H e. absurd (f k A R r H e);
     rows_same = refl;
-    marks-fewer = omega arith;
-    values-fewer = omega arith;
+    marks_fewer = omega arith;
+    values_fewer = omega arith;
   }
 
   pub not_sitting : (Sits h m v c s → ⊥) → Clears d h m v c s h m v c
@@ -195,10 +195,10 @@ module _ (d h m v : List ℕ) (c : Counts) (s : Position) where
     gone-over k A R r H e = P.clears c A R r refl (omega arith) (begins h m v c s k A R r H e)
 
     pub far_marks : c.marks < y.at.mark → Clears d h m v c s y.heads y.marks y.values c
-    far_marks l = refused y.heads y.marks y.values (λ k A R r H e. omega (arith, (gone-over k A R r H e).marks-are))
+    far_marks l = refused y.heads y.marks y.values (λ k A R r H e. omega (arith, (gone-over k A R r H e).marks_are))
 
     pub far_values : c.values * 6 < y.at.value → Clears d h m v c s y.heads y.marks y.values c
-    far_values l = refused y.heads y.marks y.values (λ k A R r H e. omega (arith, (gone-over k A R r H e).values-are))
+    far_values l = refused y.heads y.marks y.values (λ k A R r H e. omega (arith, (gone-over k A R r H e).values_are))
 
     pub block_done : (m' v' : List ℕ) → m' ≡ closed 0 c.marks y.at.mark y.at.marked y.marks
         → v' ≡ closed 0 (c.values * 6) y.at.value y.at.valued y.values
@@ -206,8 +206,8 @@ module _ (d h m v : List ℕ) (c : Counts) (s : Position) where
     block_done m' v' f g = record {
       holds = go;
       rows_same = refl;
-      marks-fewer = omega arith;
-      values-fewer = omega arith;
+      marks_fewer = omega arith;
+      values_fewer = omega arith;
     }
       where
         go : (k : List ℕ) (A R : List Row) (r : Row) → Holds (four h k m v) c (A ++ r ∷ R) → s ≡ behind A

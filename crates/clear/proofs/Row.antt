@@ -37,10 +37,10 @@ module _ (d h m v : List ℕ) (p : Cursor) (S : In (passing h m v p)) (n k : ℕ
 
   onward_in : In (passing h m v onward)
   onward_in = record {
-    marks-low = S.marks_low;
-    marks-high = S.marks_high;
+    marks_low = S.marks_low;
+    marks_high = S.marks_high;
     values_low = S.values_low;
-    values-high = S.values_high;
+    values_high = S.values_high;
   }
 
   -- the row says more marks, or more values, than there can be: no tables hold such rows
@@ -69,10 +69,10 @@ module _ (d h m v : List ℕ) (p : Cursor) (S : In (passing h m v p)) (n k : ℕ
   row_done to end w m' v' e f K L s t W = record {
     next = refl;
     within = record {
-      marks-low = omega (arith, K.high, S.marks_low);
-      marks-high = omega arith;
+      marks_low = omega (arith, K.high, S.marks_low);
+      marks_high = omega arith;
       values_low = omega (arith, L.high, S.values_low);
-      values-high = omega arith;
+      values_high = omega arith;
     };
     clears = go;
   }

@@ -174,7 +174,7 @@ module _ (c : Counts) (h m v : List ℕ) (p : Cursor) (A us : List Row) (r : Row
         rw f
         record {
           gap = gap';
-          gap-values = gap_values';
+          gap_values = gap_values';
           heads = rw (
             G.heads ∙ heads-parts A r us (replicate (heads_room - c.rows) 0),
             o,
@@ -206,13 +206,13 @@ module _ (c : Counts) (h m v : List ℕ) (p : Cursor) (A us : List Row) (r : Row
           marked-is = omega (arith, K.next, G.marked-is);
           mark-is = omega (arith, K.next, G.mark-is);
           valued-is = omega (arith, L.next, G.valued-is);
-          value-is = omega (arith, L.next, G.value_is);
+          value_is = omega (arith, L.next, G.value_is);
           rows_are = omega (arith, length-append A (clear_row d r ∷ []), G.rows_are);
-          marks-are = omega (arith, G.marks_are, marks_here);
-          values-are = omega (arith, G.values_are, values_here);
+          marks_are = omega (arith, G.marks_are, marks_here);
+          values_are = omega (arith, G.values_are, values_here);
           rows_fit = G.rows_fit;
-          marks-fit = G.marks_fit;
-          values-fit = G.values_fit;
-          good-before = all_append Good A (clear_row d r ∷ []) G.good_before (good_clear d r G.good_behind.0, tt);
-          good-behind = G.good_behind.1;
+          marks_fit = G.marks_fit;
+          values_fit = G.values_fit;
+          good_before = all_append Good A (clear_row d r ∷ []) G.good_before (good_clear d r G.good_behind.0, tt);
+          good_behind = G.good_behind.1;
         }

@@ -1,6 +1,8 @@
 // Document 01, "Applying an operation": clearing a place clears each place under both its branches, and each of those its own branches in
 // turn. In the tables that is one pass over the rows of the place's block: each row's marks and values that stay are moved down to those
 // before them, and at the end what stands behind the block is moved once.
+#![tactic(auto)]
+
 ghost use Rattle.std.specs.Prelude.{◌<◌, length};
 ghost use Rattle.clear.specs.Clear.{passing, In, Starts, ClearsRow, ClearsBranch, ClearsPlace, Clears};
 
@@ -9,7 +11,7 @@ use tables::{Counts, DEEPEST, Position, head_in, with_counts};
 use words::{close, keep_marks, keep_values};
 
 // Where a pass over the rows stands: the row, in marks and in values the word to read, and the word behind the last that stays.
-#[derive(Drop)]
+#[derive(Clone, Copy)]
 pub struct Cursor {
     pub row: usize,
     pub mark: usize,

@@ -15,11 +15,6 @@ use lib.Seq.{drop-cons}
 use Rattle.meaning.specs.Ids.{entry, at_most, all_below}
 use Rattle.meaning.specs.Edit.{largest, spent}
 
--- Owning a `Counters` says that its list, written as the logic does, has eight entries: `c.good.0.1.1.0.1.0.1` of a first
--- parameter.
-pub eight : (l : List ℕ) → length (map (λ v. v) l) ≡ 8 → length l ≡ 8
-eight l e = sym (length-map l (λ v. v)) ∙ e
-
 -- past the eighth entry
 pub no_entry : (l : List ℕ) (n : ℕ) → length l ≡ 8 → 8 ≤ n → 0 ≡ entry l n
 no_entry l n e h = sym (get_or-eq_default l 0 (omega arith))

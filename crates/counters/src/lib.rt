@@ -1,5 +1,7 @@
 // Document 01, "Ids, what was seen, what depends": the tests on eight counters, each equal to its definition in `meaning`.
 // An id c.r is the number c * 8 + (r - 1), so its terminal's entry is number id % 8. No function asks anything of its caller.
+#![tactic(auto)]
+
 ghost use Rattle.std.specs.Prelude.{◌≡◌};
 ghost use Rattle.meaning.specs.Ids as Ids;
 ghost use Rattle.meaning.specs.Edit as Edit;

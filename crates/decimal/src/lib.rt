@@ -1,5 +1,7 @@
 // Numbers in decimal, read and written. Document 01, "Messages": no plus sign, no leading zero. The table of twenty powers of ten
 // serves both ways; who reads or writes takes it once, by `powers`, and lends it.
+#![tactic(auto)]
+
 ghost use Rattle.std.specs.Prelude.{◌≡◌, ◌^◌, ◌≤◌, ◌<◌, length};
 ghost use Rattle.meaning.specs.Text.{decimal};
 ghost use Rattle.decimal.specs.Take.{Wrote};
@@ -30,7 +32,7 @@ const POWERS: [u64; 20] = [
 ];
 
 // A number that was read, and the place behind it.
-#[derive(Drop)]
+#[derive(Clone, Copy)]
 pub enum Number {
     Value { value: u64, next: usize },
     Bad,

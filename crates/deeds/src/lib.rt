@@ -1,4 +1,6 @@
 // What an operation does, told from its deed and its value.
+#![tactic(auto)]
+
 ghost use Rattle.std.specs.Prelude.{◌≡◌, [], ◌∷◌};
 ghost use Rattle.deeds.specs.Deeds.{is_delete, is_insert, given_in, branch_of, string_kind, kind_of, parts_of, may_make, inserts_here};
 

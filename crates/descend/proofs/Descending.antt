@@ -57,7 +57,7 @@ module _ (o : Act) (n : ℕ) (ks : List ℕ) (from : Position) (c : Counts) (T :
   stays : (A B : List Row) (w : Way) → Holds T c (A ++ B) → from ≡ behind A → Spare c (steps w) (n - 1 + steps w) 1 → (P : List ℕ → Type 0)
       → P T.marks → Leaves (marks_by o.deed (n - 1)) from.mark c.marks T.marks P
   stays A B w H b s P x =
-      leaves_still (marks_by o.deed (n - 1)) from T c A B P H b (omega (arith, marks_most o.deed (n - 1), s.marks-spare)) x
+      leaves_still (marks_by o.deed (n - 1)) from T c A B P H b (omega (arith, marks_most o.deed (n - 1), s.marks_spare)) x
 
   -- the way has no more keys
   pub descend_ends : length ks < 3 → Descends o n ks from c T c c.marks T
@@ -66,8 +66,8 @@ module _ (o : Act) (n : ℕ) (ks : List ℕ) (from : Position) (c : Counts) (T :
       stays A B w H b s _
       (words_none w (omega (arith, ap length e))
       (λ w. Does T c c (steps w) (steps w) 1 (A ++ under_rows o.id o.deps.at n w B))
-      (λ a. record { holds = H; rows_more = omega arith; marks-more = omega arith; values-more = omega arith })
-      (record { holds = H; rows_more = omega arith; marks-more = omega arith; values-more = omega arith }))
+      (λ a. record { holds = H; rows_more = omega arith; marks_more = omega arith; values_more = omega arith })
+      (record { holds = H; rows_more = omega arith; marks_more = omega arith; values_more = omega arith }))
 
   none_left : (w : Way) → steps w ≤ 0 → length (way_words w) < 3
   unfolding steps way_words
@@ -109,7 +109,7 @@ module _ (o : Act) (n : ℕ) (ks : List ℕ) (from : Position) (c : Counts) (T :
       (A ++ under_rows o.id o.deps.at n w B)))
       (λ p a q v d ws s. rw (marks_all o.deed (n - 1) (ap is_delete d))
       (I A B p a H b (first_words hi len p q x z) v.1 d ws l f some
-      (record { rows-spare = s.rows-spare; marks-spare = omega (arith, some, s.marks-spare); values-spare = s.values-spare })))
+      (record { rows_spare = s.rows_spare; marks_spare = omega (arith, some, s.marks_spare); values_spare = s.values_spare })))
       q v d ws s
 
 -- The row of the first key.
@@ -128,13 +128,13 @@ module _ (o : Act) (n : ℕ) (ks : List ℕ) (from : Position) (c : Counts) (h k
       let g = going w e d val in
       let p = g.one_more in
       let S = no _ _ x.there t (L m v A B g.pass g.meant g.spot H b g.agrees g.tells
-      (g.making c (omega (arith, s.rows-spare)) shallow)) in
+      (g.making c (omega (arith, s.rows_spare)) shallow)) in
       let q : A ++ B ≡ A ++ under_rows o.id o.deps.at n w B = ap (A ++◌) (sym (g.change B ∙ S.nothing _)) in
       stays o n ks from c (four h k m v) A B w H b s _ (record {
         holds = subst (Holds (four h₁ k₁ m v) c) q (rw (S.heads, S.keys) H);
         rows_more = omega arith;
-        marks-more = omega arith;
-        values-more = omega arith;
+        marks_more = omega arith;
+        values_more = omega arith;
       })
 
   module _ (t : x.there ≡ true) (A B : List Row) (w : Way) (H : Holds (four h k m v) c (A ++ B)) (b : from ≡ behind A)
@@ -150,7 +150,7 @@ module _ (o : Act) (n : ℕ) (ks : List ℕ) (from : Position) (c : Counts) (h k
     arrives : Arrives (four h₁ k₁ m v) c x n change A B
     unfolding search_of change
     arrives = yes _ _ x.there t (L m v A B g.pass g.meant g.spot H b g.agrees g.tells
-        (g.making c (omega (arith, s.rows-spare, g.one_more)) shallow))
+        (g.making c (omega (arith, s.rows_spare, g.one_more)) shallow))
 
     -- what is done to its block is done to the rows
     landed : (U : Tables) (a₁ : Counts) (r : Row) (P R : List Row)
@@ -179,9 +179,9 @@ module _ (o : Act) (n : ℕ) (ks : List ℕ) (from : Position) (c : Counts) (h k
       (d ∙ G.deed_same) (ws ∙ G.value_same)
       ((fresh t A B w H b q val d y f s).0, (fresh t A B w H b q val d y f s).1, tt) some
       (record {
-        rows-spare = omega (arith, a.rows_more, s.rows-spare);
-        marks-spare = omega (arith, a.marks-same, s.marks-spare);
-        values-spare = omega (arith, a.values_same, s.values-spare);
+        rows_spare = omega (arith, a.rows_more, s.rows_spare);
+        marks_spare = omega (arith, a.marks_same, s.marks_spare);
+        values_spare = omega (arith, a.values_same, s.values_spare);
       }) in
       let D = L.is in
       record {
@@ -192,8 +192,8 @@ module _ (o : Act) (n : ℕ) (ks : List ℕ) (from : Position) (c : Counts) (h k
           holds = landed t A B w H b q val d y f s _ e a.row a.before a.beyond a.reached.leads
               (rw a.reached.deep at D.holds);
           rows_more = omega (arith, D.rows_more, a.rows_more);
-          marks-more = omega (arith, D.marks_more, a.marks-same);
-          values-more = omega (arith, D.values_more, a.values_same);
+          marks_more = omega (arith, D.marks_more, a.marks_same);
+          values_more = omega (arith, D.values_more, a.values_same);
         };
       }
 
@@ -228,9 +228,9 @@ module _ (o : Act) (n : ℕ) (ks : List ℕ) (from : Position) (c : Counts) (h k
       let L₁ = D (W ++ r ∷ []) R G.next (subst (Holds (four h₁ k₁ m v) x.counts) (sym (append_assoc W (r ∷ []) R)) N)
       next (qk ∙ ap (drop 3) words) G.valid (d ∙ G.deed_same) (ws ∙ G.value_same)
       (omega (arith, y)) fr.2 (omega arith) (record {
-        rows-spare = omega (arith, a.rows_more, s.rows-spare);
-        marks-spare = omega (arith, some, a.marks-same, s.marks-spare);
-        values-spare = omega (arith, a.values_same, s.values-spare);
+        rows_spare = omega (arith, a.rows_more, s.rows_spare);
+        marks_spare = omega (arith, some, a.marks_same, s.marks_spare);
+        values_spare = omega (arith, a.values_same, s.values_spare);
       }) in
       let D₁ = L₁.is in
       let t₁ = L₁.table in
@@ -240,9 +240,9 @@ module _ (o : Act) (n : ℕ) (ks : List ℕ) (from : Position) (c : Counts) (h k
       let o₁ : list ≡ of_list G.next = ql ∙ (ap (λ l. ltb 16 (get_or l 5 0)) words ∙ third_word G.next on G.valid) in
       let L₂ = E k₂ t₁ v₂ W U r G.next (subst (λ i. Gap (marks_by o.deed i) p₁ m₂ t₁) u L₁.gap) N₂ a.at o₁ (d ∙ G.deed_same)
       (fr.0, fr.1, tt) (record {
-        rows-spare = omega (arith, D₁.rows_more, a.rows_more, s.rows-spare);
-        marks-spare = omega (arith, D₁.marks_more, a.marks-same, s.marks-spare);
-        values-spare = omega (arith, D₁.values_more, a.values_same, s.values-spare);
+        rows_spare = omega (arith, D₁.rows_more, a.rows_more, s.rows_spare);
+        marks_spare = omega (arith, D₁.marks_more, a.marks_same, s.marks_spare);
+        values_spare = omega (arith, D₁.values_more, a.values_same, s.values_spare);
       }) some (omega (arith, L₁.before, mark-next x.at p W r a.at next)) in
       let E₁ = L₂.is in
       record {
@@ -253,7 +253,7 @@ module _ (o : Act) (n : ℕ) (ks : List ℕ) (from : Position) (c : Counts) (h k
           holds = landed t A B w H b q val d y f s _ e r a.before R a.reached.leads
               (subst (λ X. Holds (four h₃ k₂ L₂.table v₂) e (W ++ X)) (entered G.next r R on) E₁.holds);
           rows_more = omega (arith, E₁.rows_more, D₁.rows_more, a.rows_more);
-          marks-more = omega (arith, E₁.marks_more, D₁.marks_more, a.marks-same);
-          values-more = omega (arith, E₁.values_more, D₁.values_more, a.values_same);
+          marks_more = omega (arith, E₁.marks_more, D₁.marks_more, a.marks_same);
+          values_more = omega (arith, E₁.values_more, D₁.values_more, a.values_same);
         };
       }

@@ -58,7 +58,7 @@ module _ (o : Act) (list : Bool) (n : ℕ) (s : Position) (c : Counts) (p : ℕ)
       let y : deletes w ≡ false = sym (deed_deletes w) ∙ (ap is_delete (sym d) ∙ x) in
       let q : flag_row list (mark_row o.id r) ≡ enter_row o.id w r = rw (l, y) (flag_enter (of_list w) (mark_row o.id r)) in
       let a = (at-behind s A b).row in
-      let L = M k t v A R r (rw (marks_all o.deed n x) at G) H b f.0 (omega (arith, sp.marks-spare)) some low in
+      let L = M k t v A R r (rw (marks_all o.deed n x) at G) H b f.0 (omega (arith, sp.marks_spare)) some low in
       let t₁ = L.table in
       let N = F k t₁ v e A R (mark_row o.id r) L.is a in
       record {

@@ -56,7 +56,7 @@ module _ (h k : List ℕ) (c : Counts) (from t : Position) (w : Search) (F : Fin
         reached = reached_row w.depth pass meant p B make r R x y;
         fresh = λ i f. subst (Fresh i) x (fresh_parts i (over w.depth pass) B f).1;
         rows_more = omega arith;
-        marks-same = refl;
+        marks_same = refl;
         values_same = refl;
       }
 
@@ -81,7 +81,7 @@ module _ (h k : List ℕ) (c : Counts) (from t : Position) (w : Search) (F : Fin
         reached = rw s (reached_new w.depth pass meant p B x);
         fresh = λ i f. ((λ u. u), (λ u. u), (fresh_parts i (over w.depth pass) B f).1);
         rows_more = omega (arith, Z.rows);
-        marks-same = Z.marks;
+        marks_same = Z.marks;
         values_same = Z.values;
       }
 

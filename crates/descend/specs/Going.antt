@@ -153,7 +153,7 @@ module _ (i : ℕ) (d : List ℕ) (n : ℕ) where
         change = λ B. rw (make_key w (length k) vk.short);
         words = refl;
         valid = vw;
-        deed-same = refl;
+        deed_same = refl;
         value_same = refl;
         one_more = refl;
       }
@@ -171,7 +171,7 @@ module _ (i : ℕ) (d : List ℕ) (n : ℕ) where
     change = λ B. refl;
     words = refl;
     valid = vw;
-    deed-same = refl;
+    deed_same = refl;
     value_same = refl;
     one_more = refl;
   }

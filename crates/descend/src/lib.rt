@@ -1,6 +1,8 @@
 // Document 01, "What an operation does": an operation carried out on the tables, in place. The way is followed from the root down; what its
 // end says is done first, and each place on the way is marked on the way back, so that no step moves what a later one looks for. At the end
 // of the way a gap of as many words as there are marks to put in stands in the marks; it travels to the front, and no mark is moved twice.
+#![tactic(auto)]
+
 ghost use Rattle.tables.specs.Wants.{search_of};
 ghost use Rattle.tables.specs.Holding.{four};
 ghost use Rattle.deeds.specs.Deeds.{may_make};
@@ -14,7 +16,7 @@ use steps::WithGap;
 use tables::{Counts, DEEPEST, MAP, Position, Search, next_row, search_of};
 
 // The row that a key leads to, if there is one now.
-#[derive(Drop)]
+#[derive(Clone, Copy)]
 pub struct Child {
     pub there: bool,
     pub at: Position,

@@ -1,6 +1,8 @@
 // Document 01, "What is answered": a local edit of a terminal in lent memory. It is judged once, on the document as it stands: 1, 11, 8, 9,
 // 10, 13. Then its operation is applied, its message is written at the start of the caller's buffer, and the waiting messages are settled.
 // A refusal changes nothing. Each function is safe on any memory.
+#![tactic(auto)]
+
 mod writing;
 
 ghost use Rattle.std.specs.Prelude.{◌≤◌, ◌<◌, length};
@@ -22,7 +24,7 @@ const LAST_COUNTER: u64 = 4294967295;
 const DEVICES: u64 = 8;
 
 // The answer to an edit, and the terminal's state after it.
-#[derive(Drop)]
+#[derive(Clone, Copy)]
 pub struct Outcome {
     pub answer: Edited,
     pub state: State,

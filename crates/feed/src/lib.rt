@@ -1,5 +1,7 @@
 // A terminal that is fed a stream of messages, part by part. Document 01, "The saved sheet", last paragraph: the messages are received one
 // after another, and refused ones are passed over. Each function is safe on any memory.
+#![tactic(auto)]
+
 ghost use Rattle.std.specs.Prelude.{◌≡◌};
 ghost use Rattle.tables.specs.Holding.{four};
 ghost use Rattle.stream.specs.Pieces.{CutInside};
@@ -11,14 +13,14 @@ use tables::{HEADS, KEYS, MARKS, VALUES};
 use waiting::WAITING;
 
 // The terminal's state, and where the stream goes on.
-#[derive(Drop)]
+#[derive(Clone, Copy)]
 pub struct Fed {
     pub state: State,
     pub cut: Cut,
 }
 
 // The same, and whether more bytes are needed.
-#[derive(Drop)]
+#[derive(Clone, Copy)]
 struct One {
     state: State,
     cut: Cut,

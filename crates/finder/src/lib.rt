@@ -1,5 +1,7 @@
 // A place looked for in the document's tables: by its key, the step that judging an operation and following a read's way share; and by a
 // read's way from the root. Nothing is written; it is safe on any memory, and if the tables hold rows, the answer is that of the rows.
+#![tactic(auto)]
+
 ghost use Rattle.finder.specs.Looks.{Looks};
 ghost use Rattle.finder.specs.Follows.{FollowsUnder, Follows};
 
@@ -7,14 +9,14 @@ use readers::Key;
 use tables::{DEEPEST, Position, find, head_at, is_at, next_row, search_of};
 
 // A place that was looked for: where it stands, and whether it does.
-#[derive(Drop)]
+#[derive(Clone, Copy)]
 pub struct Sight {
     pub at: Position,
     pub there: bool,
 }
 
 // Where a way leads: a place on it is unknown; one is known but has no marks; or all are present, and the last one stands here.
-#[derive(Drop)]
+#[derive(Clone, Copy)]
 pub enum Followed {
     Missing,
     WithoutMarks,

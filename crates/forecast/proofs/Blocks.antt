@@ -28,8 +28,8 @@ pub block_gone : (heads marks values : List ℕ) (rows : ℕ) (s next : Position
     → RowGone heads marks values s d g → Passes heads s next → RowDeep heads s.row n → UnderGone heads marks values rows next n d u
     → BlockGone heads marks values rows s d (record { marks = g.marks + u.marks; values = g.values + u.values })
 block_gone heads marks values rows s next n d g u W P D U = record {
-  few-marks = omega (arith, W.few_marks, U.few_marks);
-  few-values = omega (arith, W.few_values, U.few_values);
+  few_marks = omega (arith, W.few_marks, U.few_marks);
+  few_values = omega (arith, W.few_values, U.few_values);
   is = λ keys c A r R q h e. go keys c A r R q h e;
 }
   where

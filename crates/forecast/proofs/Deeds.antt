@@ -37,7 +37,7 @@ deed_number_lem (into_list e w) = deed_number_lem w
 pub deed_weighed : (h k m v : List ℕ) (rows : ℕ) (top : Position) (o : Act) (i : ℕ) (way : List ℕ) (x : Weight) → i ≡ deed_number o.deed
     → WayWeighed h k m v rows top 1 true o.deps.at i way x → Weighed h k m v rows top o way x
 deed_weighed h k m v rows top o i way x z W = record {
-  few-places = W.few_places;
-  few-marks = W.few_marks;
+  few_places = W.few_places;
+  few_marks = W.few_marks;
   is = λ c A B w H q f e g ok N. W.is c A B w H q (λ t. f) e (z ∙ (ap deed_number g ∙ deed_number_lem w)) ok (omega (arith, N));
 }

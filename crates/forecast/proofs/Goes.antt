@@ -41,8 +41,8 @@ module _ (heads marks values : List ℕ) (s : Position) (d : List ℕ) where
   pub row_none : ((keys : List ℕ) (c : Counts) (r : Row) → Here (four heads keys marks values) c s r → ⊥)
       → RowGone heads marks values s d nothing
   row_none never = record {
-    few-marks = omega arith;
-    few-values = omega arith;
+    few_marks = omega arith;
+    few_values = omega arith;
     is = λ keys c A r R h e. absurd (never keys c r (here _ c s A r R h e));
   }
 
@@ -56,7 +56,7 @@ module _ (heads marks values : List ℕ) (s : Position) (d : List ℕ) where
   counted head a b e p q keys c r h =
       let vs = r.values in
       let p' : a + length (keep (uncovered d) r.marks) ≡ length r.marks =
-      subst (λ l. a + length (keep (uncovered d) l) ≡ length r.marks) h.marks-run
+      subst (λ l. a + length (keep (uncovered d) l) ≡ length r.marks) h.marks_run
       (subst (λ n. a + length (keep (uncovered d) (run s.mark n marks)) ≡ n) (marks_said e ∙ h.marks) p) in
       let k : keep_rows 6 (uncovered d) (length vs) (drop (s.value * 6) values)
       ≡ flat value_words (keep (λ v. uncovered d v.id) vs) =
@@ -73,8 +73,8 @@ module _ (heads marks values : List ℕ) (s : Position) (d : List ℕ) where
       ≡ head.values * 6
       → RowGone heads marks values s d (record { marks = a; values = b })
   row_gone head a b e p q = record {
-    few-marks = omega (arith, marks_said e);
-    few-values = omega (arith, values-said e);
+    few_marks = omega (arith, marks_said e);
+    few_values = omega (arith, values-said e);
     is = λ keys c A r R h f. counted head a b e p q keys c r (here _ c s A r R h f);
   }
 
@@ -130,8 +130,8 @@ pub record Going (heads marks values : List ℕ) (rows : ℕ) (from : Position) 
 module _ (heads marks values : List ℕ) (rows : ℕ) (from : Position) (n : ℕ) (d : List ℕ) where
   pub under_none : ((c : Counts) → rows ≡ c.rows → Between c from → ⊥) → UnderGone heads marks values rows from n d nothing
   under_none never = record {
-    few-marks = omega arith;
-    few-values = omega arith;
+    few_marks = omega arith;
+    few_values = omega arith;
     is = λ keys c A B q h e. absurd (never c q (between _ c from A B h e));
   }
 
@@ -142,8 +142,8 @@ module _ (heads marks values : List ℕ) (rows : ℕ) (from : Position) (n : ℕ
     low = l;
     mark = omega arith;
     value = omega arith;
-    few-marks = omega arith;
-    few-values = omega arith;
+    few_marks = omega arith;
+    few_values = omega arith;
     is = λ keys c A B q h e. record { front = A; back = B; all = refl; here = e; marks = omega arith; values = omega arith };
   }
 
@@ -153,8 +153,8 @@ module _ (heads marks values : List ℕ) (rows : ℕ) (from : Position) (n : ℕ
         → Holds (four heads keys marks values) c (front ++ back) → at ≡ behind front → passed (deeper n) back ≡ [])
         → UnderGone heads marks values rows from n d sum
     going_done stop = record {
-      few-marks = omega (arith, G.few_marks, G.low, G.few);
-      few-values = omega (arith, G.few_values, G.low, G.few);
+      few_marks = omega (arith, G.few_marks, G.low, G.few);
+      few_values = omega (arith, G.few_values, G.low, G.few);
       is = λ keys c A B q h e. done keys c A B q h (G.is keys c A B q h e);
     }
       where
@@ -204,8 +204,8 @@ module _ (heads marks values : List ℕ) (rows : ℕ) (from : Position) (n : ℕ
           low = omega arith;
           mark = omega (arith, G.mark, m);
           value = omega (arith, G.value, v);
-          few-marks = omega (arith, G.few_marks, W.few_marks);
-          few-values = omega (arith, G.few_values, W.few_values);
+          few_marks = omega (arith, G.few_marks, W.few_marks);
+          few_values = omega (arith, G.few_values, W.few_values);
           is = λ keys c A B q h e. on keys c A B q h (G.is keys c A B q h e);
         }
       where

@@ -46,8 +46,8 @@ between T c s a b h e =
     record {
       few = h.rows_fit;
       row = omega (arith, at.row, length-append a b, h.rows_are);
-      mark = omega (arith, at.mark, marks_append a b, h.marks-are, h.marks-fit);
-      value = omega (arith, at.value, values-append a b, h.values-are, h.values-fit);
+      mark = omega (arith, at.mark, marks_append a b, h.marks_are, h.marks_fit);
+      value = omega (arith, at.value, values-append a b, h.values_are, h.values_fit);
     }
 
 module _ (T : Tables) (c : Counts) (s : Position) (a : List Row) (r : Row) (b : List Row) (h : Holds T c (a ++ r ∷ b)) (e : s ≡ behind a) where
@@ -80,14 +80,14 @@ module _ (T : Tables) (c : Counts) (s : Position) (a : List Row) (r : Row) (b : 
         live = l;
         row = omega (arith, P.heads_long T c (a ++ r ∷ b) h, h.rows_fit);
         few = omega (arith, h.rows_fit);
-        mark = omega (arith, at.mark, marks_sum, h.marks-are, h.marks-fit);
-        value = omega (arith, at.value, values-sum, h.values-are, h.values-fit);
+        mark = omega (arith, at.mark, marks_sum, h.marks_are, h.marks_fit);
+        value = omega (arith, at.value, values-sum, h.values_are, h.values_fit);
         depth = ap depth_in head ∙ depth_in_lem r n;
         marks = ap marks_at head ∙ marks_in_lem r n;
         values = ap values_at head ∙ values_in_lem r n;
-        marks-fit = omega (arith, at.mark, marks_sum, h.marks-are, h.marks-fit, P.marks_long T c (a ++ r ∷ b) h);
-        values-fit = omega (arith, at.value, values-sum, h.values-are, h.values-fit, P.values_long T c (a ++ r ∷ b) h);
-        marks-run =
+        marks_fit = omega (arith, at.mark, marks_sum, h.marks_are, h.marks_fit, P.marks_long T c (a ++ r ∷ b) h);
+        values_fit = omega (arith, at.value, values-sum, h.values_are, h.values_fit, P.values_long T c (a ++ r ∷ b) h);
+        marks_run =
             ap (λ t. take (length r.marks) (drop s.mark t)) (h.marks ∙ P.marks_parts a r b _)
             ∙ (ap (take (length r.marks)) (drop_at (marks_of a) _ s.mark (P.marks_length a ∙ sym at.mark))
             ∙ take-append_seam r.marks _);

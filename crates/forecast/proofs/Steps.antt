@@ -76,17 +76,17 @@ module _ (h k m v : List ℕ) (rows : ℕ) (from : Position) (n : ℕ) (parent-k
       → WayWeighed h k m v rows from n parent-known d deed way (nothing_weighed true)
   unfolding elements_found_rows under_change
   ends_weighed never = record {
-    few-places = omega arith;
-    few-marks = omega arith;
+    few_places = omega arith;
+    few_marks = omega arith;
     is = λ c A B w H q f e g ok N. all w B e N;
   }
     where
       all : (w : Way) (B : List Row) → way ≡ way_words w → n + steps w ≤ 9
           → Weighs (elements_found_rows d n w (cond parent-known B [])) (under_change d n w (cond parent-known B [])) (nothing_weighed true)
       all (assign a) B e N =
-          record { found-is = refl; places = refl; marks = refl; values = refl; gone-marks = refl; gone-values = refl }
+          record { found_is = refl; places = refl; marks = refl; values = refl; gone_marks = refl; gone-values = refl }
       all delete B e N =
-          record { found-is = refl; places = refl; marks = refl; values = refl; gone-marks = refl; gone-values = refl }
+          record { found_is = refl; places = refl; marks = refl; values = refl; gone_marks = refl; gone-values = refl }
       all (insert p a) B e N = absurd (never (insert p a) tt e N)
       all (into_map t w) B e N = absurd (never (into_map t w) tt e N)
       all (into_list i w) B e N = absurd (never (into_list i w) tt e N)
@@ -156,19 +156,19 @@ module _ (h k m v : List ℕ) (rows : ℕ) (from : Position) (n : ℕ) (parent-k
       (carried (marked x deed) s.there (eqb (get_or way 2 0) 17) (covered d (get_or way 0 0)) true)
   unfolding way_words way_number steps
   step_weighed long more look past under = record {
-    few-places =
+    few_places =
         omega (
           arith,
           carried_places U s.there (eqb (get_or way 2 0) 17) (covered d (get_or way 0 0)) true,
           marked_places x deed,
-          under.few-places,
+          under.few_places,
           length-drop 3 way,
         );
-    few-marks = omega (
+    few_marks = omega (
       arith,
       carried_marks U s.there (eqb (get_or way 2 0) 17) (covered d (get_or way 0 0)) true,
       marked_marks x deed,
-      under.few-marks,
+      under.few_marks,
       length-drop 3 way,
     );
     is = λ c A B w H q f e g ok N. all c A B w H q f e g ok N;

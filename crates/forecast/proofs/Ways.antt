@@ -105,8 +105,8 @@ module _ (h k m v : List ℕ) (rows : ℕ) (from : Position) (n : ℕ) (parent-k
       (carried u s.there (eqb y.len 17) (covered d y.hi) (not (eqb deed 0)))
   unfolding way_words way_number
   target_weighed s u small look place = record {
-    few-places = omega (arith, carried_places u s.there (eqb y.len 17) (covered d y.hi) (not (eqb deed 0)), place.few-places);
-    few-marks = omega (arith, carried_marks u s.there (eqb y.len 17) (covered d y.hi) (not (eqb deed 0)), place.few-marks);
+    few_places = omega (arith, carried_places u s.there (eqb y.len 17) (covered d y.hi) (not (eqb deed 0)), place.few_places);
+    few_marks = omega (arith, carried_marks u s.there (eqb y.len 17) (covered d y.hi) (not (eqb deed 0)), place.few_marks);
     is = λ c A B w H q f e g ok N. all c A B w H q f e g ok;
   }
     where
@@ -146,8 +146,8 @@ module _ (h k m v : List ℕ) (rows : ℕ) (from : Position) (n : ℕ) (parent-k
       → WayWeighed h k m v rows from n parent-known d deed (words_in y) x
   unfolding way_words prev_words way_number elements_found_rows under_change locate_element
   insert_weighed x big fp fm first other = record {
-    few-places = omega arith;
-    few-marks = omega arith;
+    few_places = omega arith;
+    few_marks = omega arith;
     is = λ c A B w H q f e g ok N. all c A B w H q f e g;
   }
     where
@@ -164,11 +164,11 @@ module _ (h k m v : List ℕ) (rows : ℕ) (from : Position) (n : ℕ) (parent-k
   element_is : (a : Assigned) (b : Bool) → deed ≡ cond (is_plain a) 3 4 → Weighs b (new_change a) (element_weighed b deed)
   unfolding element_weighed
   element_is (plain x) b e =
-      rw e (record { found-is = refl; places = refl; marks = refl; values = refl; gone-marks = refl; gone-values = refl })
+      rw e (record { found_is = refl; places = refl; marks = refl; values = refl; gone_marks = refl; gone-values = refl })
   element_is empty_map b e =
-      rw e (record { found-is = refl; places = refl; marks = refl; values = refl; gone-marks = refl; gone-values = refl })
+      rw e (record { found_is = refl; places = refl; marks = refl; values = refl; gone_marks = refl; gone-values = refl })
   element_is empty_list b e =
-      rw e (record { found-is = refl; places = refl; marks = refl; values = refl; gone-marks = refl; gone-values = refl })
+      rw e (record { found_is = refl; places = refl; marks = refl; values = refl; gone_marks = refl; gone-values = refl })
 
   pub insert_first : 3 ≤ deed → y.len ≡ 18
       → WayWeighed h k m v rows from n parent-known d deed (words_in y) (element_weighed true deed)
@@ -219,10 +219,10 @@ module _ (h k m v : List ℕ) (rows : ℕ) (from : Position) (n : ℕ) (parent-k
           let u : is_located L ≡ false = sym (sees_there (A ++ B) n s L S) ∙ t in
           subst (λ b. Weighs (covered d e && b) (cond b (new_change a) no_change) (nothing_weighed false)) (sym u)
           (record {
-            found-is = sym (and_false (covered d e));
+            found_is = sym (and_false (covered d e));
             places = refl;
             marks = refl;
             values = refl;
-            gone-marks = refl;
+            gone_marks = refl;
             gone-values = refl;
           })

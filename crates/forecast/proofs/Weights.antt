@@ -60,11 +60,11 @@ module _ (d : List ℕ) (n : ℕ) (b : Block) (g : Lost) where
 
   cleared : Goes d (join b) g → Weighs true (both (adds 0 1 0) (clears d (join b))) (place_weight 2)
   cleared h = record {
-    found-is = refl;
+    found_is = refl;
     places = refl;
     marks = refl;
     values = refl;
-    gone-marks = omega (arith, h.marks);
+    gone_marks = omega (arith, h.marks);
     gone-values = omega (arith, h.values);
   }
 
@@ -72,25 +72,25 @@ module _ (d : List ℕ) (n : ℕ) (b : Block) (g : Lost) where
   unfolding way_number run_change give_change
   place_is (assign (plain v)) e h =
       record {
-        found-is = refl;
+        found_is = refl;
         places = refl;
         marks = refl;
         values = refl;
-        gone-marks = omega (arith, h.0);
+        gone_marks = omega (arith, h.0);
         gone-values = omega (arith, h.1);
       }
   place_is (assign empty_map) e h = cleared h
   place_is (assign empty_list) e h = cleared h
   place_is delete e h =
-      record { found-is = refl; places = refl; marks = refl; values = refl; gone-marks = h.marks; gone-values = h.values }
+      record { found_is = refl; places = refl; marks = refl; values = refl; gone_marks = h.marks; gone-values = h.values }
 
 pub place_weighed : (h m v : List ℕ) (rows : ℕ) (s : Sight) (d : List ℕ) (deed : ℕ) (g : Lost) (x y : ℕ)
     → SightGone h m v rows s (eqb deed 1) d g → x ≡ cond (eqb deed 0) 0 1 → y ≡ cond (eqb deed 1) 1 0 → x ≤ 1
     → PlaceWeighed h m v rows s d deed
     (record { found = true; places = 0; marks = x; values = y; gone_marks = g.marks; gone_values = g.values })
 place_weighed h m v rows s d deed g x y G a b l = record {
-  few-places = omega arith;
-  few-marks = l;
+  few_places = omega arith;
+  few_marks = l;
   is = λ k c rs n p t w H q S e f. go k c rs n p t w H q S e f;
 }
   where
@@ -102,11 +102,11 @@ place_weighed h m v rows s d deed g x y G a b l = record {
         let z = subst (λ i. GoesAt (eqb i 1) d (or_new n p t) g) f (G k c rs n p t H q S) in
         let r = place_is d n (or_new n p t) g w (ends w e) z in
         record {
-          found-is = r.found-is;
+          found_is = r.found_is;
           places = r.places;
           marks = a ∙ (ap (λ i. cond (eqb i 0) 0 1) f ∙ r.marks);
           values = b ∙ (ap (λ i. cond (eqb i 1) 1 0) f ∙ r.values);
-          gone-marks = r.gone-marks;
+          gone_marks = r.gone_marks;
           gone-values = r.gone-values;
         }
 
@@ -129,14 +129,14 @@ module _ (d : List ℕ) (n : ℕ) (p : Spot) (w : Way) (u : Weight) where
           → Weighs (elements_found_rows d (suc n) w []) (cond new (both (adds 1 0 0) (run_change d n w (new_block n p))) no_change)
           (cond new (placed u) (nothing_weighed u.found))
       go true = record {
-        found-is = W.found_is;
+        found_is = W.found_is;
         places = omega (arith, W.places);
         marks = omega (arith, W.marks);
         values = omega (arith, W.values);
-        gone-marks = omega (arith, W.gone_marks_lem);
+        gone_marks = omega (arith, W.gone_marks);
         gone-values = omega (arith, W.gone-values);
       }
-      go false = record { found-is = W.found_is; places = refl; marks = refl; values = refl; gone-marks = refl; gone-values = refl }
+      go false = record { found_is = W.found_is; places = refl; marks = refl; values = refl; gone_marks = refl; gone-values = refl }
 
   pub list_carry : (l : Located) (e : ℕ) (new : Bool)
       → Weighs (elements_found_rows d (suc n) w (under_of l)) (run_change d n w (or_new n p l)) u
@@ -148,19 +148,19 @@ module _ (d : List ℕ) (n : ℕ) (p : Spot) (w : Way) (u : Weight) where
       go : (t : Bool) → Weighs (t && elements_found_rows d (suc n) w b.under) (run_change d n w b) (cond t u (unled u))
       go true = W
       go false = record {
-        found-is = refl;
+        found_is = refl;
         places = W.places;
         marks = W.marks;
         values = W.values;
-        gone-marks = W.gone_marks_lem;
+        gone_marks = W.gone_marks;
         gone-values = W.gone-values;
       }
   list_carry nowhere e new W = record {
-    found-is = sym (and_false (covered d e));
+    found_is = sym (and_false (covered d e));
     places = refl;
     marks = refl;
     values = refl;
-    gone-marks = refl;
+    gone_marks = refl;
     gone-values = refl;
   }
 
@@ -229,19 +229,19 @@ mark-is d n w b found u deed g e W =
         })
     go true f =
         rw (sym f) (record {
-          found-is = W.found_is;
+          found_is = W.found_is;
           places = omega (arith, W.places);
           marks = omega (arith, W.marks);
           values = omega (arith, W.values);
-          gone-marks = omega (arith, W.gone_marks_lem);
+          gone_marks = omega (arith, W.gone_marks);
           gone-values = omega (arith, W.gone-values);
         })
     go false f =
         rw (sym f) (record {
-          found-is = W.found_is;
+          found_is = W.found_is;
           places = omega (arith, W.places);
           marks = omega (arith, W.marks);
           values = omega (arith, W.values);
-          gone-marks = omega (arith, W.gone_marks_lem);
+          gone_marks = omega (arith, W.gone_marks);
           gone-values = omega (arith, W.gone-values);
         })

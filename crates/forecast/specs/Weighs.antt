@@ -78,7 +78,7 @@ pub record Weighs (found : Bool) (c : Change) (x : Weight) : Type 0 where
   pub places : x.places ≡ c.more.places
   pub marks : x.marks ≡ c.more.marks
   pub values : x.values ≡ c.more.values
-  pub gone_marks_lem : x.gone_marks ≡ c.less.marks
+  pub gone_marks : x.gone_marks ≡ c.less.marks
   pub gone-values : x.gone_values ≡ c.less.values
 
 abbrev pub nothing_weighed : Bool → Weight

@@ -1,6 +1,8 @@
 // The judgement of an operation on the tables, before anything is changed: how many marks and values it takes away, how many places,
 // marks and values it adds, and whether each element on its way is there. Nothing is written. No function asks anything of its caller:
 // if the tables hold rows, the answers are those of the rows.
+#![tactic(auto)]
+
 mod loss;
 mod sums;
 
@@ -18,14 +20,14 @@ use sums::{carry, deed_number, element, mark, weightless};
 use tables::{DEEPEST, Position, next_row};
 
 // How many marks and values go.
-#[derive(Drop)]
+#[derive(Clone, Copy)]
 pub struct Lost {
     pub marks: usize,
     pub values: usize,
 }
 
 // What an operation comes to: whether each element on its way is there; how many places, marks and values come; how many go.
-#[derive(Drop)]
+#[derive(Clone, Copy)]
 pub struct Weight {
     pub found: bool,
     pub places: usize,

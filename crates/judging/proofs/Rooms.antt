@@ -33,7 +33,7 @@ use Rattle.judging.specs.Judging.{Small, has_room, Newer}
 
 -- no place goes, and at most one value comes
 record Slight (c : Change) : Type 0 where
-  no_place_lem : c.less.places ≡ 0
+  no_place : c.less.places ≡ 0
   one_value : c.more.values ≤ 1
 
 found_slight : (f : Block → Change) → ((b : Block) → Slight (f b)) → (new : Bool) (n : ℕ) (p : Spot) (l : Located)
@@ -87,11 +87,11 @@ module _ (T : Tables) (c : Counts) (D : Document) (o : M.Operation) (S : Stores 
         rows = H.rows_fit;
         marks = H.marks_fit;
         values = H.values_fit;
-        more-places = few_places;
-        more-marks = few_marks;
-        more-values = omega (arith, W.values, s.one_value);
-        less-marks = omega (arith, W.gone_marks_lem, W.marks, few_marks, b.marks, l.marks);
-        less-values = omega (arith, W.gone-values, b.values, l.values, s.one_value);
+        more_places = few_places;
+        more_marks = few_marks;
+        more_values = omega (arith, W.values, s.one_value);
+        less_marks = omega (arith, W.gone_marks, W.marks, few_marks, b.marks, l.marks);
+        less_values = omega (arith, W.gone-values, b.values, l.values, s.one_value);
       }
 
   pub room-is : has_room c x ≡ fits (apply o D)
@@ -103,7 +103,7 @@ module _ (T : Tables) (c : Counts) (D : Document) (o : M.Operation) (S : Stores 
       let ch = change o (rows_of D) in
       let marks = leb (marks_in (rows_of D) + ch.more.marks) (1024 + ch.less.marks) in
       let values = leb (values_in (rows_of D) + ch.more.values) (256 + ch.less.values) in
-      rw (H.rows_are, H.marks_are, H.values_are, W.places, W.marks, W.values, W.gone_marks_lem, W.gone-values)
+      rw (H.rows_are, H.marks_are, H.values_are, W.places, W.marks, W.values, W.gone_marks, W.gone-values)
       (ap (λ y. leb (length (rows_of D) + ch.more.places) y && marks && values) a ∙ sym (room_rows o D S.sound n))
 
 -- the tests, one after another

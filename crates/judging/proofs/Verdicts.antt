@@ -109,7 +109,7 @@ module _ (h k m v : List ℕ) (c : Counts) (op : Operation) (way : List ℕ) (pa
     room y = room-is (four h k m v) c D o S y x _ weighed (omega (arith, W.few_places, long)) (omega (arith, W.few_marks, long))
 
     stray : (b : Bool) → x.found ≡ b → astray D o ≡ not b
-    stray b t = back (astray D o) b (sym weighed.found-is ∙ t)
+    stray b t = back (astray D o) b (sym weighed.found_is ∙ t)
       where
         back : (a b : Bool) → not a ≡ b → a ≡ not b
         back true b e = ap not e

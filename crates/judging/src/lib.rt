@@ -1,5 +1,7 @@
 // Document 01, "What is answered": an operation judged on the document as it stands, before anything is changed. Whatever the memory
 // contains, each function stays in bounds and terminates, and it changes no word.
+#![tactic(auto)]
+
 mod limits;
 
 ghost use Rattle.std.specs.Prelude.{◌≡◌};
@@ -13,7 +15,7 @@ use readers::Key;
 use tables::{Counts, Position};
 
 // The refusals of an operation, by name: 2, 3, 4, 8, 9, 10.
-#[derive(Drop)]
+#[derive(Clone, Copy)]
 pub enum Refusal {
     Counter,
     Repeat,
@@ -24,7 +26,7 @@ pub enum Refusal {
 }
 
 // What the counters say of an operation: it is ready; it comes too early; or 2, 3, 4.
-#[derive(Drop)]
+#[derive(Clone, Copy)]
 pub enum Readiness {
     Ready,
     Early,
@@ -32,7 +34,7 @@ pub enum Readiness {
 }
 
 // What an operation that is ready comes to: it is taken; or 8, 9, 10.
-#[derive(Drop)]
+#[derive(Clone, Copy)]
 pub enum ReadyJudgement {
     Taken,
     NoElement,
@@ -41,7 +43,7 @@ pub enum ReadyJudgement {
 }
 
 // What an operation comes to: it is taken; it comes too early; or it is refused.
-#[derive(Drop)]
+#[derive(Clone, Copy)]
 pub enum Judgement {
     Taken,
     Early,

@@ -1,5 +1,7 @@
 // A terminal in memory: lent tables hold its document and its waiting operations, and a state by value says how many words are live.
 // Which memory keeps which terminal is in specs/.
+#![tactic(auto)]
+
 ghost use Rattle.std.specs.Prelude.{◌≡◌};
 ghost use Rattle.keeping.specs.Keeping.{within_memory};
 
@@ -8,7 +10,7 @@ use tables::Counts;
 use waiting::MOST;
 
 // What a terminal keeps beside the lent tables.
-#[derive(Drop)]
+#[derive(Clone, Copy)]
 pub struct State {
     pub counts: Counts,
     pub seen: Counters,

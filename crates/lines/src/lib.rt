@@ -1,6 +1,8 @@
 // The lines of a sheet, what a read writes, and a message's head, written at the start of a lent buffer. Each writer is lent the rest of
 // the buffer from the bytes already written onward, and leaves what stands behind its line untouched. The size of each is known before a
 // byte is written.
+#![tactic(auto)]
+
 ghost use Rattle.std.specs.Prelude.{◌≡◌, [], ◌∷◌, ◌+◌, ◌≤◌, length};
 ghost use Rattle.meaning.specs.Sheet.{flags_text, spot_text, line_text, seen_line, place_line, mark_line, end_line};
 ghost use Rattle.decimal.specs.Take.{Wrote};
@@ -19,7 +21,7 @@ use writers::{
 };
 
 // Where a place hangs: by a key, as two words and its length, or by an element id.
-#[derive(Drop)]
+#[derive(Clone, Copy)]
 pub enum Spot {
     Key { hi: u64, lo: u64, len: u64 },
     Element { id: u64 },

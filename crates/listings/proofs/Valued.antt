@@ -67,8 +67,8 @@ module _ (h v : List ℕ) (at : Position) (p : Place) (o : Owns h v at p) where
       omega (
         arith,
         (at-behind at o.ahead o.here).value,
-        o.holds.values-are,
-        o.holds.values-fit,
+        o.holds.values_are,
+        o.holds.values_fit,
         values-append o.ahead (r ∷ o.later),
       )
 

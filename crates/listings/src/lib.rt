@@ -2,6 +2,8 @@
 // more rows than it must. The size of what is read is known before a byte is written (13), and each writer is lent the rest of the buffer
 // from the bytes already written onward. Whatever the tables hold, each stays in bounds and terminates, and a refusal leaves the buffer as
 // it was.
+#![tactic(auto)]
+
 mod list;
 mod map;
 mod plain;
@@ -18,14 +20,14 @@ pub use plain::{put_values, values_size};
 use tables::{Position, ROWS_ROOM, VALUES_ROOM, head_at, key_at};
 
 // The rows of a place's map, and how many bytes its keys take.
-#[derive(Drop)]
+#[derive(Clone, Copy)]
 pub struct Extent {
     pub rows: usize,
     pub size: usize,
 }
 
 // Where the n-th element stands.
-#[derive(Drop)]
+#[derive(Clone, Copy)]
 pub enum Nth {
     At { row: usize },
     Nowhere,

@@ -1,5 +1,7 @@
 // What the program `merge` of document 01 does: it reads messages one after another from standard input, receives them into an empty
 // document, passes over refused ones, and prints the sheet. However long the input is, no more of it is held than 4,096 bytes.
+#![tactic(auto)]
+
 ghost use Rattle.std.specs.Prelude.{◌-◌, ◌≤◌, ◌<◌, length, take};
 ghost use Rattle.meaning.specs.Receive.{new_terminal};
 ghost use Rattle.tables.specs.Holding.{four};
@@ -16,7 +18,7 @@ use waiting::WAITING;
 
 // The bytes that are read and not handed over; whether nothing more is read, since the input has ended or reading has failed; whether it
 // has failed.
-#[derive(Drop)]
+#[derive(Clone, Copy)]
 struct Input {
     cut: Cut,
     ended: bool,
@@ -24,7 +26,7 @@ struct Input {
 }
 
 // The terminal when all is received; ok exactly if the input has ended.
-#[derive(Drop)]
+#[derive(Clone, Copy)]
 struct Merged {
     state: State,
     ok: bool,

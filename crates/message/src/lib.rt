@@ -1,5 +1,7 @@
 // Messages, the lines of a local edit, and the ways of reads: read. Document 01, "Messages" and "Reads". Each public reader says what the
 // bytes mean, or that they are in no such layout.
+#![tactic(auto)]
+
 mod edit;
 mod ways;
 
@@ -15,13 +17,13 @@ use readers::{Given, IdRead, Key, Past};
 pub use ways::{take_element_way, take_keys_way, take_place_way};
 
 // A way as words, three for a key, and the number of its keys.
-#[derive(Drop)]
+#[derive(Clone, Copy)]
 pub struct Way {
     pub keys: [u64; 24],
     pub n: usize,
 }
 
-#[derive(Drop)]
+#[derive(Clone, Copy)]
 pub enum Deed {
     Assign(Given),
     Insert(Given),
@@ -29,7 +31,7 @@ pub enum Deed {
 }
 
 // What is done, and by which operation; the words are those of its value, if it is a string.
-#[derive(Drop)]
+#[derive(Clone, Copy)]
 pub struct Act {
     pub id: u64,
     pub deps: Counters,
@@ -38,14 +40,14 @@ pub struct Act {
 }
 
 // An operation: what is done, and at which way's end.
-#[derive(Drop)]
+#[derive(Clone, Copy)]
 pub struct Operation {
     pub act: Act,
     pub way: Way,
 }
 
 // A step of a way; or the way ends here.
-#[derive(Drop)]
+#[derive(Clone, Copy)]
 enum StepRead {
     Step { key: Key, next: usize },
     End,
@@ -53,7 +55,7 @@ enum StepRead {
 }
 
 // A way that was read; `last` is the third word of its last key.
-#[derive(Drop)]
+#[derive(Clone, Copy)]
 struct WayRead {
     ok: bool,
     way: Way,
@@ -62,7 +64,7 @@ struct WayRead {
 }
 
 // What is done, with the words of its value.
-#[derive(Drop)]
+#[derive(Clone, Copy)]
 struct DeedRead {
     ok: bool,
     deed: Deed,
@@ -71,7 +73,7 @@ struct DeedRead {
 }
 
 // The lines of a message ahead of `at=`.
-#[derive(Drop)]
+#[derive(Clone, Copy)]
 struct HeadRead {
     ok: bool,
     id: u64,
@@ -80,7 +82,7 @@ struct HeadRead {
 }
 
 // The lines of an edit, from `at=` on.
-#[derive(Drop)]
+#[derive(Clone, Copy)]
 pub struct EditRead {
     pub ok: bool,
     pub way: Way,
@@ -88,14 +90,14 @@ pub struct EditRead {
     pub words: [u64; 4],
 }
 
-#[derive(Drop)]
+#[derive(Clone, Copy)]
 pub struct MessageRead {
     pub ok: bool,
     pub op: Operation,
 }
 
 // The way of a read; that of the root has no keys.
-#[derive(Drop)]
+#[derive(Clone, Copy)]
 pub struct PlaceRead {
     pub ok: bool,
     pub way: Way,

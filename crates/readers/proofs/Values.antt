@@ -107,15 +107,15 @@ record Makes {X : Type 0} (B : Layout X) (make : X → Plain) : Type 0 where
 -- `n`, `t` and `f` are letters that nothing follows
 bare-made : (v : Plain) → body v ≡ [] → plains.Valid v → ((t : List ℕ) → MorePlain v t) → Makes (fixed []) (λ u. v)
 bare-made v e ok m =
-    record { same = λ u. e; valid = λ u x. ok; was-valid = λ u x. tt; more = λ u t x. m t; was-more = λ u t x. tt }
+    record { same = λ u. e; valid = λ u x. ok; was_valid = λ u x. tt; more = λ u t x. m t; was_more = λ u t x. tt }
 
 integer_made : Makes integers integer
 unfolding body
-integer_made = record { same = λ z. refl; valid = λ z v. v; was-valid = λ z v. v; more = λ z t m. m; was-more = λ z t m. m }
+integer_made = record { same = λ z. refl; valid = λ z v. v; was_valid = λ z v. v; more = λ z t m. m; was_more = λ z t m. m }
 
 string_made : Makes strings string
 unfolding body
-string_made = record { same = λ b. refl; valid = λ b v. v; was-valid = λ b v. v; more = λ b t m. m; was-more = λ b t m. m }
+string_made = record { same = λ b. refl; valid = λ b v. v; was_valid = λ b v. v; more = λ b t m. m; was_more = λ b t m. m }
 
 -- what the letter says of a value
 abbrev Of : ℕ → Plain → Type 0

@@ -1,5 +1,7 @@
 // Readers of the parts that messages, edits, sheets and the ways of reads are made of. Each takes what stands at a place of a text, and
 // answers it with the place behind it, or that nothing of its kind stands there. A table of powers `powers` is `decimal::powers()`.
+#![tactic(auto)]
+
 mod assigned;
 mod hex;
 
@@ -15,19 +17,19 @@ pub use hex::{take_key, take_string};
 use meaning::Counters;
 
 // The place behind a fixed text.
-#[derive(Drop)]
+#[derive(Clone, Copy)]
 pub enum Past {
     At(usize),
     Bad,
 }
 
-#[derive(Drop)]
+#[derive(Clone, Copy)]
 pub enum IdRead {
     Found { id: u64, next: usize },
     Bad,
 }
 
-#[derive(Drop)]
+#[derive(Clone, Copy)]
 pub struct CountersRead {
     pub ok: bool,
     pub counters: Counters,
@@ -35,7 +37,7 @@ pub struct CountersRead {
 }
 
 // An integer: `value`, or -(`value` + 1).
-#[derive(Drop)]
+#[derive(Clone, Copy)]
 pub enum IntegerRead {
     NonNeg { value: u64, next: usize },
     Neg { value: u64, next: usize },
@@ -43,14 +45,14 @@ pub enum IntegerRead {
 }
 
 // Up to eight bytes as a word, and how many they are.
-#[derive(Drop)]
+#[derive(Clone, Copy)]
 enum Word {
     Bytes { word: u64, len: u64, next: usize },
     Bad,
 }
 
 // Up to 32 bytes as four words: a string, as it is read.
-#[derive(Drop)]
+#[derive(Clone, Copy)]
 pub struct StringRead {
     pub ok: bool,
     pub words: [u64; 4],
@@ -60,7 +62,7 @@ pub struct StringRead {
 
 // A key as three words: its first eight bytes, its next eight, its length. Of an element id: the id, 0 and `ELEMENT`; of `^`: 0, 0 and
 // `CARET`.
-#[derive(Drop)]
+#[derive(Clone, Copy)]
 pub struct Key {
     pub hi: u64,
     pub lo: u64,
@@ -74,14 +76,14 @@ pub const ELEMENT: u64 = 17;
 
 pub const CARET: u64 = 18;
 
-#[derive(Drop)]
+#[derive(Clone, Copy)]
 pub enum KeyRead {
     Found { key: Key, next: usize },
     Bad,
 }
 
 // What is assigned: a plain value, or an empty map or list. Neg(m) is -(m + 1); a string has its length here, and its words beside it.
-#[derive(Drop)]
+#[derive(Clone, Copy)]
 pub enum Given {
     Null,
     True,
@@ -93,7 +95,7 @@ pub enum Given {
     List,
 }
 
-#[derive(Drop)]
+#[derive(Clone, Copy)]
 pub struct GivenRead {
     pub ok: bool,
     pub given: Given,

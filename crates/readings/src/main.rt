@@ -1,4 +1,6 @@
 // Reads the message on standard input a million times, and says whether each reading gave an operation: the program that bench/reads times.
+#![tactic(auto)]
+
 use libc::STDOUT_FILENO;
 
 // One reading.

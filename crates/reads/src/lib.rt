@@ -2,6 +2,8 @@
 // into the caller's buffer. Each read takes its way apart (1), follows it in the tables (14), and gives what is listed of the place there
 // (13, 0): the text fills the start of the buffer and the rest is untouched. Whatever the memory contains, each stays in bounds and
 // terminates, and a refusal leaves the buffer as it was.
+#![tactic(auto)]
+
 ghost use Rattle.reads.specs.Asks.{KeysAsked, ValuesAsked, ElementAsked};
 ghost use Rattle.reads.specs.Gives.{Reaches, GivesKeys, GivesValues, GivesElement};
 

@@ -1,5 +1,7 @@
 // The program `replay`: answers the calls of a replay script (docs/REPLAY.md), read from standard input. The gate compares what it prints
 // with the second implementation's answers.
+#![tactic(auto)]
+
 ghost use Rattle.std.specs.Prelude.{◌≤◌, ◌<◌, ◌≡◌, true};
 ghost use Rattle.stream.specs.Pieces.{CutInside};
 
@@ -10,7 +12,7 @@ use tables::{HEADS, KEYS, MARKS, VALUES};
 use waiting::WAITING;
 
 // The bytes of the script that are held, and whether no byte follows them.
-#[derive(Drop)]
+#[derive(Clone, Copy)]
 struct Input {
     cut: Cut,
     ended: bool,

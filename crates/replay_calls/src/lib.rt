@@ -1,5 +1,7 @@
 // The calls of a replay script (docs/REPLAY.md), answered on standard output from a terminal in lent memory: `reset`, `receive` and `save`;
 // the others by `replay_edit`, `replay_reads` and `replay_layout`.
+#![tactic(auto)]
+
 use keeping::State;
 use meaning::{Receipt, Saved};
 use readers::Past;
@@ -10,7 +12,7 @@ use tables::{HEADS, KEYS, MARKS, VALUES};
 use waiting::WAITING;
 
 // The call at a place of a script, and where the next one stands.
-#[derive(Drop)]
+#[derive(Clone, Copy)]
 enum Call {
     Reset { next: usize },
     Receive { from: usize, to: usize, next: usize },

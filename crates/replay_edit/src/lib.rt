@@ -1,4 +1,6 @@
 // The edits of a replay script (docs/REPLAY.md), answered on standard output by a terminal in lent memory.
+#![tactic(auto)]
+
 use keeping::State;
 use meaning::Edited;
 use replay_text::{
@@ -8,7 +10,7 @@ use tables::{HEADS, KEYS, MARKS, VALUES};
 use waiting::WAITING;
 
 // Where the next call stands, and the terminal's state after this one.
-#[derive(Drop)]
+#[derive(Clone, Copy)]
 pub struct After {
     pub next: usize,
     pub state: State,

@@ -1,5 +1,7 @@
 // The layout calls of a replay script (docs/REPLAY.md), answered on standard output: a line for each, its name and 0 if the block is in the
 // layout that is asked for, else 1.
+#![tactic(auto)]
+
 use replay_text::block_of;
 use script::{BlockFound, part};
 

@@ -1,4 +1,6 @@
 // The reads of a replay script (docs/REPLAY.md), answered on standard output from a document in lent memory: `keys`, `values`, `element`.
+#![tactic(auto)]
+
 use meaning::Reading;
 use replay_text::{
     FILL, LONGEST_BUFFER, Lent, lent_of, lent_with_number, say_refused, say_short, say_written,
@@ -7,7 +9,7 @@ use script::part;
 use tables::{Counts, HEADS, KEYS, VALUES};
 
 // What is read; of an element, the one with this index.
-#[derive(Drop)]
+#[derive(Clone, Copy)]
 enum Ask {
     Keys,
     Values,

@@ -1,4 +1,6 @@
 // What the parts of the program `replay` share (docs/REPLAY.md): a call whose first line has one number, and the lines of answers.
+#![tactic(auto)]
+
 use libc::STDOUT_FILENO;
 use script::{Asked, BlockFound};
 
@@ -9,7 +11,7 @@ pub const FILL: u8 = 165;
 
 // A call with a block and a buffer: where the block stands, the buffer's size, a number that stands between these two, and where the next
 // call begins; or the call is another one.
-#[derive(Drop)]
+#[derive(Clone, Copy)]
 pub enum Lent {
     Call {
         from: usize,

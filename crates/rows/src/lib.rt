@@ -1,1 +1,2 @@
 // The operation on rows: specs/. There is no code.
+#![tactic(auto)]

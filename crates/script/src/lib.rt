@@ -1,5 +1,7 @@
 // The calls of a replay script (docs/REPLAY.md), as the programs that answer them find them in the script's bytes: the numbers of a first
 // line one after another, and then the block.
+#![tactic(auto)]
+
 ghost use Rattle.std.specs.Prelude.{◌≡◌};
 ghost use Rattle.script.specs.Calls.{FindsNumber, FindsBlock, part_of};
 
@@ -7,14 +9,14 @@ use decimal::Number;
 use readers::Past;
 
 // A number of a call's first line, and the place behind it; or the line is another one.
-#[derive(Drop)]
+#[derive(Clone, Copy)]
 pub enum Asked {
     Number { value: u64, next: usize },
     Other,
 }
 
 // The block of a call: the part of the script from one byte up to another, and where the next call begins; or the call is another one.
-#[derive(Drop)]
+#[derive(Clone, Copy)]
 pub enum BlockFound {
     Bytes { from: usize, to: usize, next: usize },
     Other,

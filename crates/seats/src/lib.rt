@@ -1,12 +1,14 @@
 // Where a new element comes among the rows of the document's tables. Document 01, "Applying an operation": behind its predecessor or the
 // head, and on over elements with greater ids. It is safe on any memory.
+#![tactic(auto)]
+
 ghost use Rattle.seats.specs.Seats.{Seats};
 
 use readers::{CARET, ELEMENT, Key};
 use tables::{Aim, Position, Search, next_row};
 
 // Where a new element comes, if its predecessor is there.
-#[derive(Drop)]
+#[derive(Clone, Copy)]
 pub struct Seat {
     pub there: bool,
     pub at: Position,

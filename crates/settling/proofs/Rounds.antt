@@ -130,7 +130,7 @@ pub record Underway (X : Terminal) (T : Tables) (t : List ℕ) (s : State) (appl
   pub dropped_all : (settle X).dropped ≡ dropped + (settle now).dropped
 
 pub underway : (X : Terminal) (T : Tables) (t : List ℕ) (s : State) → Keeps T t s X → Underway X T t s 0 0
-underway X T t s K = record { now = X; keeps = K; same = refl; applied-all = omega arith; dropped-all = omega arith }
+underway X T t s K = record { now = X; keeps = K; same = refl; applied-all = omega arith; dropped_all = omega arith }
 
 module _ (X : Terminal) (T U : Tables) (t t₁ : List ℕ) (s : State) (a d : ℕ) (r : Rounded) (R : Rounds T t s r U t₁)
     (Y : Underway X T t s a d)
@@ -145,7 +145,7 @@ module _ (X : Terminal) (T U : Tables) (t t₁ : List ℕ) (s : State) (a d : �
           keeps = n.keeps;
           same = Y.same ∙ ap (λ z. z.terminal) q;
           applied-all = omega (arith, Y.applied-all, ap (λ z. length z.applied) q);
-          dropped-all = omega (arith, Y.dropped_all, ap (λ z. z.dropped) q, u.gone);
+          dropped_all = omega (arith, Y.dropped_all, ap (λ z. z.dropped) q, u.gone);
         }
 
     pub comes_to_rest : r.applied ≡ false → Rests X (record { state = r.state; applied = a; dropped = d + r.dropped }) U t₁

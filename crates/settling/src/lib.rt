@@ -1,5 +1,7 @@
 // Document 01, "What is answered", last paragraph: the waiting messages of a terminal in lent memory are settled, in rounds. Each function
 // is safe on any memory.
+#![tactic(auto)]
+
 ghost use Rattle.std.specs.Prelude.{◌≡◌};
 ghost use Rattle.tables.specs.Holding.{four};
 ghost use Rattle.settling.specs.Verdicts.{hopeless, deadly};
@@ -10,7 +12,7 @@ use keeping::State;
 use waiting::MOST;
 
 // The dead are gone; the first of the others that can be applied, if one was found.
-#[derive(Drop)]
+#[derive(Clone, Copy)]
 struct Swept {
     state: State,
     found: bool,
@@ -18,7 +20,7 @@ struct Swept {
 }
 
 // A round of settling: whether an operation was applied, and how many were dropped.
-#[derive(Drop)]
+#[derive(Clone, Copy)]
 struct Rounded {
     state: State,
     applied: bool,
@@ -26,7 +28,7 @@ struct Rounded {
 }
 
 // The waiting messages are settled: how many were applied, and how many dropped.
-#[derive(Drop)]
+#[derive(Clone, Copy)]
 pub struct Settled {
     pub state: State,
     pub applied: u64,

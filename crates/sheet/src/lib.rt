@@ -1,6 +1,8 @@
 // A document's sheet, of what the tables hold, written into the caller's buffer. Document 01, "The saved sheet".
 // The rows are gone over twice, by the same steps: first their sizes are summed, and only if the whole fits is a byte written. Each
 // writer is lent the rest of the buffer from the bytes already written onward.
+#![tactic(auto)]
+
 mod listed;
 mod parts;
 

@@ -95,11 +95,11 @@ opens at depth s hi lo len head c h h₁ k k₁ k₂ a b d z e f o m v A R p H x
       marks = H.marks ∙ ap (pad marks_room) (marks_stay A R r refl);
       values = H.values ∙ ap (pad values_room) (values_stay A R r refl);
       rows_are = omega (arith, H.rows_are, rows_between A r R);
-      marks-are = omega (arith, H.marks_are, marks_between A r R, marks_append A R);
-      values-are = omega (arith, H.values_are, values-between A r R, values-append A R);
+      marks_are = omega (arith, H.marks_are, marks_between A r R, marks_append A R);
+      values_are = omega (arith, H.values_are, values-between A r R, values-append A R);
       rows_fit = omega arith;
-      marks-fit = H.marks_fit;
-      values-fit = H.values_fit;
+      marks_fit = H.marks_fit;
+      values_fit = H.values_fit;
       good =
           all_both Good A (r ∷ R) (all_left Good A R H.good)
           (record { spot = g; depth = n; marks = tt; values = tt }, all_right Good A R H.good);

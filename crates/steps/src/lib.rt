@@ -1,5 +1,7 @@
 // The single steps over the document's tables that open a row, mark it or set a flag. Each is safe on any memory: a place, a
 // count or a table that doesn't fit is found before the first word is written. What they promise of tables that hold rows says specs/Steps.
+#![tactic(auto)]
+
 ghost use Rattle.std.specs.Prelude.{[], ◌∷◌};
 ghost use Rattle.steps.specs.Steps.{Flags, Opens, Marks};
 
@@ -64,7 +66,7 @@ pub fn open_row(
 }
 
 // The counts of tables whose marks have a gap in them, and where it stands.
-#[derive(Drop)]
+#[derive(Clone, Copy)]
 pub struct WithGap {
     pub counts: Counts,
     pub gap: usize,

@@ -1,5 +1,7 @@
 // A stream of bytes taken apart into messages. Document 01, "The saved sheet", last paragraph: each message ends before the next `op=1`
 // line, LF included, or at the end.
+#![tactic(auto)]
+
 ghost use Rattle.std.specs.Prelude.{◌≡◌, ◌≤◌, length, drop};
 ghost use Rattle.stream.specs.Ends.{starts_with, opens, Ends};
 ghost use Rattle.stream.specs.Pieces.{CutInside, Steps, Moved};
@@ -7,7 +9,7 @@ ghost use Rattle.stream.specs.Steps.{handed, waiting, step};
 
 // Where a program stands that reads a stream into a buffer: the bytes from `from` to `to` are read and not handed over; if `passing`, they
 // go on with a message that is too long.
-#[derive(Drop)]
+#[derive(Clone, Copy)]
 pub struct Cut {
     pub from: usize,
     pub to: usize,
@@ -15,7 +17,7 @@ pub struct Cut {
 }
 
 // A whole message stands from the old `from` to the new one; a message that is too long ends at the new `from`; or more bytes are needed.
-#[derive(Drop)]
+#[derive(Clone, Copy)]
 pub enum Step {
     Message { next: Cut },
     TooLong { next: Cut },

@@ -28,13 +28,13 @@ module _ (w : Search) (heads keys : List ℕ) (rows : ℕ) (s : Position) (ok : 
   -- it is at the end
   pub sought_end : rows ≤ s.row → sought w heads keys rows s ≡ s
   sought_end h =
-      let e = drop_of_length-le (take rows heads) {i = s.row} (omega (arith, length-take rows heads, ok.in-heads)) in
+      let e = drop_of_length-le (take rows heads) {i = s.row} (omega (arith, length-take rows heads, ok.in_heads)) in
       ap (λ hs. seek_words w hs (drop (3 * s.row) keys) s) e ∙ seek_none w (drop (3 * s.row) keys) s
 
   module _ (lt : s.row < rows) where
     heads_here : drop s.row (take rows heads) ≡ get_or heads s.row 0 ∷ drop (suc s.row) (take rows heads)
     heads_here =
-        drop-cons (take rows heads) s.row 0 (omega (arith, length-take rows heads, ok.in-heads))
+        drop-cons (take rows heads) s.row 0 (omega (arith, length-take rows heads, ok.in_heads))
         ∙ ap (◌∷ drop (suc s.row) (take rows heads)) (get_or-take rows heads s.row 0 lt)
 
     keys_here : key_in (drop (3 * s.row) keys) ≡ key_at keys s.row
@@ -75,8 +75,8 @@ module _ (w : Search) (heads keys : List ℕ) (rows : ℕ) (s : Position) (ok : 
         let m : h / 128 % 2048 < 2048 = omega arith in
         let v : h / 262144 % 512 < 512 = omega arith in
         record {
-          in-heads = ok.in-heads;
-          in-keys = ok.in-keys;
+          in_heads = ok.in_heads;
+          in_keys = ok.in_keys;
           few = ok.few;
           begins = omega arith;
           marks = omega (arith, ok.marks, m);

@@ -71,10 +71,10 @@ module _ (A : List Row) (r r' : Row) (R : List Row) where
         marks = p;
         values = q;
         rows_are = omega (arith, H.rows_are, rows_between A r R, rows_between A r' R);
-        marks-are = omega (arith, H.marks_are, marks_between A r R, marks_between A r' R);
-        values-are = omega (arith, H.values_are, values-between A r R, values-between A r' R);
+        marks_are = omega (arith, H.marks_are, marks_between A r R, marks_between A r' R);
+        values_are = omega (arith, H.values_are, values-between A r R, values-between A r' R);
         rows_fit = omega (arith, H.rows_fit);
-        marks-fit = f;
-        values-fit = l;
+        marks_fit = f;
+        values_fit = l;
         good = all_both Good A (r' ∷ R) (all_left Good A (r ∷ R) H.good) (g G.0, G.1);
       }

@@ -56,7 +56,7 @@ pub record Holds (T : Tables) (c : Counts) (rs : List Row) : Type 0 where
 pub holds_within : {T : Tables} {c : Counts} {rs : List Row} → Holds T c rs → within_tables c ≡ true
 unfolding within_tables
 holds_within {c = c} h =
-    rw (le-leb c.rows 264 h.rows_fit, le-leb c.marks 1032 h.marks-fit, le-leb c.values 257 h.values-fit) refl
+    rw (le-leb c.rows 264 h.rows_fit, le-leb c.marks 1032 h.marks_fit, le-leb c.values 257 h.values_fit) refl
 
 pub within_rows : (c : Counts) → within_tables c ≡ true → c.rows ≤ 264
 unfolding within_tables

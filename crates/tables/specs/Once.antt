@@ -93,9 +93,9 @@ holds_once T c rs us h k p q =
     (live_once heads_room T.heads (heads_of rs) (heads_of us) h.heads k.heads (omega (arith, heads-length rs, heads-length us)))
     (live_once keys_room T.keys (keys_of rs) (keys_of us) h.keys k.keys (omega (arith, keys_length rs, keys_length us)))
     (live_once marks_room T.marks (marks_of rs) (marks_of us) h.marks k.marks
-    (marks_length rs ∙ (sym h.marks-are ∙ (k.marks-are ∙ sym (marks_length us)))))
+    (marks_length rs ∙ (sym h.marks_are ∙ (k.marks_are ∙ sym (marks_length us)))))
     (live_once values_room T.values (values_of rs) (values_of us) h.values k.values
-    (omega (arith, values_length rs, values_length us, h.values-are, k.values-are)))
+    (omega (arith, values_length rs, values_length us, h.values_are, k.values_are)))
 
 -- rows are held by one memory only: each word of each table, and the counts
 pub held_once : (T U : Tables) (c e : Counts) (rs : List Row) → Holds T c rs → Holds U e rs → (T ≡ U) × (c ≡ e)
@@ -108,8 +108,8 @@ held_once T U c e rs h k = (
   },
   λ t. record {
     rows = (h.rows_are ∙ sym k.rows_are) t;
-    marks = (h.marks-are ∙ sym k.marks-are) t;
-    values = (h.values-are ∙ sym k.values-are) t;
+    marks = (h.marks_are ∙ sym k.marks_are) t;
+    values = (h.values_are ∙ sym k.values_are) t;
   },
 )
 

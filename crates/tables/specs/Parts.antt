@@ -120,7 +120,7 @@ few_narrow (r ∷ rs) g m v = (
 
 pub holds_narrow : (T : Tables) (c : Counts) (rs : List Row) → Holds T c rs → AllNarrow rs
 holds_narrow T c rs h =
-    few_narrow rs h.good (omega (arith, h.marks-are, h.marks-fit)) (omega (arith, h.values-are, h.values-fit))
+    few_narrow rs h.good (omega (arith, h.marks_are, h.marks_fit)) (omega (arith, h.values_are, h.values_fit))
 
 pub all_narrow_left : (a b : List Row) → AllNarrow (a ++ b) → AllNarrow a
 unfolding AllNarrow
@@ -145,11 +145,11 @@ module _ (T : Tables) (c : Counts) (rs : List Row) (h : Holds T c rs) where
   keys_long = ap length h.keys ∙ pad-length keys_room (keys_of rs) (omega (arith, keys_length rs, h.rows_are, h.rows_fit))
 
   pub marks_long : length T.marks ≡ marks_room
-  marks_long = ap length h.marks ∙ pad-length marks_room (marks_of rs) (omega (arith, marks_length rs, h.marks-are, h.marks-fit))
+  marks_long = ap length h.marks ∙ pad-length marks_room (marks_of rs) (omega (arith, marks_length rs, h.marks_are, h.marks_fit))
 
   pub values_long : length T.values ≡ values_room
   values_long =
-      ap length h.values ∙ pad-length values_room (values_of rs) (omega (arith, values_length rs, h.values-are, h.values-fit))
+      ap length h.values ∙ pad-length values_room (values_of rs) (omega (arith, values_length rs, h.values_are, h.values_fit))
 
 -- a row between others, with the words that come behind: z are the zeros
 module _ (a : List Row) (r : Row) (b : List Row) (z : List ℕ) where

@@ -37,9 +37,9 @@ placed T c s A R r H e =
       small = rw d (omega (arith, n.depth, n.marks, n.values, side_small r.spot, bit_small r.map, bit_small r.list));
       marks = rw d (marks_in_lem r n);
       values = rw d (values_in_lem r n);
-      marks-low = omega (arith, p.mark, H.marks_are, marks_between A r R);
+      marks_low = omega (arith, p.mark, H.marks_are, marks_between A r R);
       values_low = omega (arith, p.value, H.values_are, values-between A r R);
-      marks-long = marks_long T c (A ++ r ∷ R) H;
-      values-long = values_long T c (A ++ r ∷ R) H;
+      marks_long = marks_long T c (A ++ r ∷ R) H;
+      values_long = values_long T c (A ++ r ∷ R) H;
       good = (all_right Good A (r ∷ R) H.good).0;
     }

@@ -53,8 +53,8 @@ module _ (h k m v : List ℕ) (c : Counts) (A B : List Row) (H : Holds (four h k
       let x = H.rows_are in
       let y = H.rows_fit in
       record {
-        in-heads = omega (arith, heads_long (four h k m v) c (A ++ B) H);
-        in-keys = omega (arith, keys_long (four h k m v) c (A ++ B) H);
+        in_heads = omega (arith, heads_long (four h k m v) c (A ++ B) H);
+        in_keys = omega (arith, keys_long (four h k m v) c (A ++ B) H);
         few = omega arith;
         begins = omega (arith, a.row);
         marks = omega (arith, a.row, a.mark, few_marks A n);

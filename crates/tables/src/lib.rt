@@ -1,6 +1,8 @@
 // The document's tables in lent memory, and the single steps over them.
 // Rows stand in the sheet's order. `heads` has a word a row: depth, side, flags, and how many marks and values the row has; `keys`
 // three words a row; `marks` the ids that mark the rows, row after row; `values` six words a value, row after row.
+#![tactic(auto)]
+
 ghost use Rattle.std.specs.Prelude.{◌≡◌, ◌+◌, ◌*◌, ◌-◌, ◌≤◌, ◌<◌, length, get_or};
 ghost use Rattle.tables.specs.Seek.{turn, turn_number, passes_one, goes_over, is_sought, Passes, Searches, holds_if, sought};
 ghost use Rattle.tables.specs.Words.{marks_at};
@@ -31,7 +33,7 @@ pub const VALUES_ROOM: usize = 257;
 pub const DEEPEST: u64 = 8;
 
 // A place in the tables: a row, and how many marks and values the rows before it have.
-#[derive(Drop)]
+#[derive(Clone, Copy)]
 pub struct Position {
     pub row: usize,
     pub mark: usize,
@@ -39,7 +41,7 @@ pub struct Position {
 }
 
 // What a row's head says: its depth, the parent's branch that it hangs in (`MAP` or `LIST`), its flags, how many marks and values it has.
-#[derive(Drop)]
+#[derive(Clone, Copy)]
 pub struct Head {
     pub depth: u64,
     pub side: u64,
@@ -54,7 +56,7 @@ pub const MAP: u64 = 0;
 pub const LIST: u64 = 1;
 
 // A value of a row, as the table holds it: its id, the number of its kind, and four words.
-#[derive(Drop)]
+#[derive(Clone, Copy)]
 pub struct Value {
     pub id: u64,
     pub kind: u64,
@@ -62,7 +64,7 @@ pub struct Value {
 }
 
 // How many rows, marks and values the tables hold.
-#[derive(Drop)]
+#[derive(Clone, Copy)]
 pub struct Counts {
     pub rows: usize,
     pub marks: usize,
@@ -71,7 +73,7 @@ pub struct Counts {
 
 // What is looked for: a key, an element, the seat of a new element behind its predecessor or behind the head, or the end of what hangs
 // there.
-#[derive(Drop)]
+#[derive(Clone, Copy)]
 pub enum Aim {
     Key,
     Element,
@@ -81,7 +83,7 @@ pub enum Aim {
 }
 
 // What is looked for among the rows of a depth, with its key.
-#[derive(Drop)]
+#[derive(Clone, Copy)]
 pub struct Search {
     pub aim: Aim,
     pub depth: u64,

@@ -20,11 +20,11 @@ new_keeps = record {
       marks = refl;
       values = refl;
       rows_are = refl;
-      marks-are = refl;
-      values-are = refl;
+      marks_are = refl;
+      values_are = refl;
       rows_fit = omega arith;
-      marks-fit = omega arith;
-      values-fit = omega arith;
+      marks_fit = omega arith;
+      values_fit = omega arith;
       good = tt;
     };
     counters = refl;

@@ -1,5 +1,7 @@
 // Document 01, "What is answered": a terminal in lent memory receives messages in any order. A message that comes too early waits; after
 // one that is applied the waiting ones are settled. Each function is safe on any memory.
+#![tactic(auto)]
+
 ghost use Rattle.std.specs.Prelude.{◌≡◌};
 ghost use Rattle.tables.specs.Holding.{four};
 ghost use Rattle.terminal.specs.Refusals.{refusal_of};
@@ -14,7 +16,7 @@ use tables::{Counts, HEADS, KEYS, MARKS, VALUES};
 use waiting::{MOST, WAITING};
 
 // What receiving comes to.
-#[derive(Drop)]
+#[derive(Clone, Copy)]
 pub struct Received {
     pub answer: Receipt,
     pub state: State,

@@ -1,1 +1,2 @@
 // What is true of the meaning: specs/. There is no code.
+#![tactic(auto)]

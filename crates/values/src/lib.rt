@@ -1,6 +1,8 @@
 // The values of a row of the document's tables: those that are covered go, and one comes. Each function is safe on any memory: a place, a
 // count or a table that doesn't fit is found before the first word is written. What they promise of tables that hold rows is in
 // specs/Values.
+#![tactic(auto)]
+
 ghost use Rattle.std.specs.Prelude.{◌∷◌};
 ghost use Rattle.values.specs.Values.{Drops, Adds, HasOne, Sets};
 

@@ -1,6 +1,8 @@
 // The waiting operations in lent memory: a table of 2560 words, forty for an operation, in ascending order of their ids, then zeros. Each
 // function is safe on any memory: a place, a count or a table that doesn't fit is found before a word is read or written. What they
 // promise of a table that holds operations says specs/Waits.
+#![tactic(auto)]
+
 mod row;
 
 ghost use Rattle.waiting.specs.Waits.{TellsEarly, Tells, TellsWaits, Puts, TakesOut};

@@ -1,6 +1,8 @@
 // Moves inside a lent table, each one pass over the words that it moves. A table is a run of live words, then zeros; marks are one word
 // each, values rows of six words whose first is the id. What a function leaves is said by specs/Words and specs/Rows: words laid over the
 // table from a place on, every other word as it was. The functions ask of their callers only that the words named are in the table.
+#![tactic(auto)]
+
 ghost use Rattle.std.specs.Prelude.{◌+◌, ◌*◌, ◌≤◌, ◌<◌, ◌≡◌, [], ◌∷◌, length, drop, replicate};
 ghost use Rattle.meaning.specs.Ids.{uncovered};
 ghost use Rattle.meaning.specs.Sets.{keep};

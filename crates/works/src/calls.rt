@@ -27,7 +27,7 @@ const SAVE: u64 = 6;
 
 // A call in the script: what it is (0 if there is none), where its block stands, the number behind the block's, the buffer's size, and
 // where the next call begins.
-#[derive(Drop)]
+#[derive(Clone, Copy)]
 pub struct Found {
     pub what: u64,
     pub from: usize,
@@ -38,7 +38,7 @@ pub struct Found {
 }
 
 // The terminal's state, and the bytes of the last call that wrote any.
-#[derive(Drop)]
+#[derive(Clone, Copy)]
 pub struct Played {
     pub state: State,
     pub written: usize,

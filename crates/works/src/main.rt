@@ -2,6 +2,8 @@
 // then come as many turns as the number of that `save` says. A turn takes a copy of the terminal and makes the calls behind the `save`,
 // which are found in the script once: `receive`, `edit`, the reads and `save`, in any order. Says how many places, marks, values and
 // waiting messages there are at the end, and how many bytes the last call wrote that wrote any.
+#![tactic(auto)]
+
 mod calls;
 
 use calls::{CALLS, Played, RECEIVE, find, find_all, make_all};
@@ -14,7 +16,7 @@ use tables::{HEADS, KEYS, MARKS, VALUES};
 use waiting::WAITING;
 
 // Where the calls behind the messages begin, and the terminal's state there.
-#[derive(Drop)]
+#[derive(Clone, Copy)]
 struct Built {
     at: usize,
     state: State,

@@ -1,6 +1,8 @@
 // Texts written at the start of a lent buffer. Each writer is lent the rest of the buffer from the bytes already written onward, writes
 // the text that document 01 gives a thing, and leaves what stands behind it untouched. A size function beside each says how many bytes
 // that takes, before a byte is written.
+#![tactic(auto)]
+
 ghost use Rattle.std.specs.Prelude.{◌≡◌, [], ◌∷◌, ◌+◌, ◌*◌, ◌≤◌, ◌<◌, length};
 ghost use Rattle.meaning.specs.Text.{decimal, hex_digit, hex, id_text, counters_text, plain_text};
 ghost use Rattle.decimal.specs.Take.{Wrote};
@@ -15,7 +17,7 @@ use meaning::Counters;
 
 // A plain value as the tables hold it; a string's bytes stand in four words beside it, and this is how many they are. `NonNeg n` is n, and
 // `Neg n` is -(n + 1).
-#[derive(Drop)]
+#[derive(Clone, Copy)]
 pub enum Kind {
     Null,
     True,

@@ -77,7 +77,7 @@ close-requires c κs =
     let l = p.auto.1.0 in
     let i = at-if7.if7.false in
     let j = at-if3.if3.false in
-    (w.marks-low, i, omega arith)
+    (w.marks_low, i, omega arith)
 
 close-requires-2 : tie.Need-close-requires-2
 close-requires-2 c κs =

@@ -57,7 +57,7 @@ weigh_way_mark_requires t c κs =
     let at-good = c.before.before.before.before.before.before.before.before.before.before.before.before.before.before.before in
     omega (
       arith,
-      c.weigh-way.ensures.few-marks,
+      c.weigh-way.ensures.few_marks,
       c.before.weigh-way-arg.given.2,
       at-good.good.1.1.1.1.1.1.1.1.1.1.0.1,
     )
@@ -73,7 +73,7 @@ weigh_way_carry_requires t c κs =
     omega (
       arith,
       e,
-      at-weigh-way.weigh-way.ensures.few-places,
+      at-weigh-way.weigh-way.ensures.few_places,
       at-weigh-way-arg.weigh-way-arg.given.2,
       at-good.good.1.1.1.1.1.1.1.1.1.1.0.1,
     )

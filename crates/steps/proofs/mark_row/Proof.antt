@@ -32,7 +32,7 @@ returns-6 : tie.Need-returns-6
 unfolding Marks
 returns-6 c k t v A R r G H e u l some low =
     let p = placed _ _ _ A R r H e in
-    absurd (omega (arith, p.marks-low, p.marks, l, marks_said c.before.head_in.ensures, c.if6.true))
+    absurd (omega (arith, p.marks_low, p.marks, l, marks_said c.before.head_in.ensures, c.if6.true))
 
 returns-7 : tie.Need-returns-7
 unfolding Marks

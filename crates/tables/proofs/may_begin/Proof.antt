@@ -5,8 +5,8 @@ use Rattle.tables.proofs.may_begin.Tie as tie
 
 returns-7 : tie.Need-returns-7
 returns-7 c = record {
-  in-heads = omega arith;
-  in-keys = omega arith;
+  in_heads = omega arith;
+  in_keys = omega arith;
   few = omega arith;
   begins = omega arith;
   marks = omega arith;
@@ -19,9 +19,9 @@ may-begin-spec =
     (tie.spec
     (λ c. λ s. omega (arith, s.few))
     (λ c. λ s. omega (arith, s.begins))
-    (λ c. λ s. omega (arith, s.in-heads))
+    (λ c. λ s. omega (arith, s.in_heads))
     (λ c. omega arith)
-    (λ c. λ s. omega (arith, s.in-keys))
+    (λ c. λ s. omega (arith, s.in_keys))
     (λ c. omega arith)
     (λ c. λ s. omega (arith, s.marks))
     (λ c. omega arith)

@@ -18,7 +18,7 @@ returns-2 c k m A R r x H t u l w = absurd (omega (arith, l, c.if2.true))
 
 returns-3 : tie.Need-returns-3
 unfolding Adds
-returns-3 c k m A R r x H t u l w = absurd (omega (arith, (placed _ _ _ A R r H t).values-long, l, c.if3.true))
+returns-3 c k m A R r x H t u l w = absurd (omega (arith, (placed _ _ _ A R r H t).values_long, l, c.if3.true))
 
 returns-4 : tie.Need-returns-4
 unfolding Adds

@@ -18,7 +18,7 @@ returns-2 c k m A R r H t = absurd (omega (arith, H.values_fit, c.if2.true))
 
 returns-3 : tie.Need-returns-3
 unfolding Drops
-returns-3 c k m A R r H t = absurd (omega (arith, (placed _ _ _ A R r H t).values-long, H.values_fit, c.if3.true))
+returns-3 c k m A R r H t = absurd (omega (arith, (placed _ _ _ A R r H t).values_long, H.values_fit, c.if3.true))
 
 returns-4 : tie.Need-returns-4
 unfolding Drops

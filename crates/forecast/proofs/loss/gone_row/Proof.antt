@@ -9,12 +9,12 @@ use Rattle.forecast.proofs.loss.gone_row.Tie as tie
 returns-4 : tie.Need-returns-4
 returns-4 c =
     let said = marks_said c.before.before.before.head_in.ensures in
-    row_none _ _ _ _ _ (λ keys t r h. omega (arith, said, h.marks, h.marks-fit))
+    row_none _ _ _ _ _ (λ keys t r h. omega (arith, said, h.marks, h.marks_fit))
 
 returns-5 : tie.Need-returns-5
 returns-5 c =
     let said = values-said c.before.before.before.before.head_in.ensures in
-    row_none _ _ _ _ _ (λ keys t r h. omega (arith, said, h.values, h.values-fit))
+    row_none _ _ _ _ _ (λ keys t r h. omega (arith, said, h.values, h.values_fit))
 
 returns-6 : tie.Need-returns-6
 returns-6 c =

@@ -1,0 +1,13 @@
+-- `decimal::decimal_size` meets its contract. The loop's invariant: no power that was passed is above v.
+-- Assumes nothing.
+use Prim.Native.Nat.{◌-◌, ◌^◌, ◌≤◌, ◌<◌}
+use native.Mathlib.Omega.{arith}
+use mathlib.Core.Path.{◌≡◌, subst}
+use Rattle.decimal.proofs.Table.{power, size_is, passed}
+use Rattle.decimal.proofs.decimal_size.Given as goal
+
+abbrev pub invariant-loop-n : goal.invariant-loop-n
+invariant-loop-n l = (1 ≤ l.n) × (l.n ≤ 20) × (1 < l.n → 10 ^ (l.n - 1) ≤ l.v)
+
+abbrev pub decreases-loop-n : goal.decreases-loop-n
+decreases-loop-n l = 20 - l.n

@@ -1,0 +1,13 @@
+-- `stream::stands` meets its contract. The loop's invariant, `Standing`: the first i bytes of the text stand there.
+-- Assumes nothing.
+use Prim.Native.Nat.{◌-◌}
+use native.Mathlib.Omega.{arith}
+use lib.ListN.{length}
+use Rattle.stream.proofs.Compare.{too_short, Standing, standing_none, standing_more, standing_not, standing_all}
+use Rattle.stream.proofs.stands.Given as goal
+
+abbrev pub invariant-loop-i : goal.invariant-loop-i
+invariant-loop-i l = Standing l.s l.text l.a l.i
+
+abbrev pub decreases-loop-i : goal.decreases-loop-i
+decreases-loop-i l = length l.text - l.i

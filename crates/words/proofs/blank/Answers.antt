@@ -1,0 +1,21 @@
+use Prim.Native.Nat.{◌-◌, ◌≤◌}
+use native.Mathlib.Omega.{arith}
+use lib.ListN.{replicate}
+use Rattle.words.proofs.Moves.{Laying, laying_start, blank_step, blank_done}
+use Rattle.words.proofs.blank.Goals as goal
+
+pub loop-i-preserved : goal.loop-i-preserved
+loop-i-preserved c =
+    let l = c.loop-i in
+    (omega arith, blank_step c.args.from c.args.n l.i c.args.t.now l.t c.requires (omega arith) l.invariant.1)
+
+pub returns : goal.returns
+returns c =
+    let l = c.loop-i in
+    blank_done c.args.from c.args.n l.i c.args.t.now l.t (omega arith) l.invariant.1
+
+pub loop-i-init : goal.loop-i-init
+loop-i-init c = (omega arith, laying_start _ _ _)
+
+pub shape_of-t : goal.shape_of-t
+shape_of-t c = c.loop-i.invariant.1.len

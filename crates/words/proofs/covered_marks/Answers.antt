@@ -1,0 +1,35 @@
+use Prim.Native.Nat.{◌+◌, ◌-◌, ◌≤◌}
+use mathlib.Core.Path.{sym, ap, ◌∙◌}
+use mathlib.Core.Bool.{not}
+use native.Mathlib.Omega.{arith}
+use Rattle.meaning.specs.Ids.{uncovered}
+use Rattle.words.proofs.Rows.{Counting, counting_start, counting_no, counting_yes, counting_marks}
+use Rattle.words.proofs.covered_marks.Goals as goal
+use Rattle.words.proofs.covered_marks.Goals.{then-covers, else-covers}
+
+pub loop-i-preserved : goal.loop-i-preserved
+loop-i-preserved c =
+    let l = c.loop-i in
+    let p = uncovered c.args.d.at in
+    let at = c.args.from + l.i in
+    elim c.if-covers.branch [
+      | then-covers w ↦ (
+        omega arith,
+        rw w.r-is (counting_no 1 p c.args.from l.i l.r at c.args.t.now (omega arith) (omega arith) l.invariant.1
+            (ap not (sym c.covers.ensures ∙ w.if-covers.true))),
+      )
+      | else-covers w ↦ (
+        omega arith,
+        rw w.r-is (counting_yes 1 p c.args.from l.i l.r at c.args.t.now (omega arith) (omega arith) l.invariant.1
+            (ap not (sym c.covers.ensures ∙ w.if-covers.false))),
+      )
+    ]
+
+pub returns : goal.returns
+returns c =
+    let l = c.loop-i in
+    counting_marks (uncovered c.args.d.at) c.args.from l.i c.args.n l.r c.args.t.now c.requires (omega arith)
+    l.invariant.1
+
+pub loop-i-init : goal.loop-i-init
+loop-i-init c = (omega arith, counting_start _ _ _ _)

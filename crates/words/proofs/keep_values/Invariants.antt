@@ -1,0 +1,15 @@
+-- `words::keep_values` meets its contract: i values have been tried. Assumes nothing.
+use Prim.Native.Nat.{◌+◌, ◌*◌, ◌-◌, ◌≤◌}
+use mathlib.Core.Path.{◌≡◌, sym, ap, ◌∙◌}
+use mathlib.Core.Bool.{not}
+use mathlib.Core.Logic.{⊎_elim}
+use native.Mathlib.Omega.{arith}
+use Rattle.meaning.specs.Ids.{uncovered}
+use Rattle.words.proofs.Rows.{Keeping, keeping_start, keeping_yes, keeping_no, keeping_done}
+use Rattle.words.proofs.keep_values.Given as goal
+
+abbrev pub invariant-loop-i : goal.invariant-loop-i
+invariant-loop-i l = (l.i ≤ l.n) × (l.at ≡ l.from + l.i * 6) × Keeping 6 (uncovered l.deps) l.from l.to l.i l.w l.initial.t l.t
+
+abbrev pub decreases-loop-i : goal.decreases-loop-i
+decreases-loop-i l = l.n - l.i

@@ -1,0 +1,12 @@
+-- `writers::counters_size` meets its contract. The loop's invariant, `Adding`: the sizes of the counters before number i are added up.
+-- Assumes nothing.
+use Prim.Native.Nat.{◌-◌}
+use native.Mathlib.Omega.{arith}
+use Rattle.writers.proofs.Commas.{Adding, adding_first, adding_more, added}
+use Rattle.writers.proofs.counters_size.Given as goal
+
+abbrev pub invariant-loop-i : goal.invariant-loop-i
+invariant-loop-i l = Adding l.c l.n l.i
+
+abbrev pub decreases-loop-i : goal.decreases-loop-i
+decreases-loop-i l = 8 - l.i
