@@ -14,6 +14,7 @@ import sys
 
 WORD = r"[^\s(){}.;,@\"«»\[\]\\]+"
 LENT = {}
+SOURCE = [""]
 TRIVIAL = {"search rules", "omega arith", "tt"}
 alike = lambda s: re.sub(r"[-_]", "", s).lower()
 
@@ -39,6 +40,7 @@ def groups(text):
 class Function:
     def __init__(self, crate, path, of):
         self.crate, self.path, self.of = crate, path, of
+        self.source = SOURCE[0]
         self.steps = {}
         for place in of["places"]:
             old, new = place[2]
@@ -74,6 +76,7 @@ class Function:
         """A body over the walk's chain of states, as one over the goal's record c."""
         body = re.sub(r"(?:\.before)+(?![\w-])", "", body)
         body = re.sub(r"\.inv(?![\w-])", ".invariant", body)
+        body = re.sub(r"\.pre(?![\w-])", ".requires", body)
         body = body.replace(".well-formed", ".well_formed").replace(".type-inv", ".type_inv")
         # names for states
         while True:
@@ -117,9 +120,13 @@ class Function:
         body = re.sub(r"(?<=[\s(\[,;]c)\.(%s)((?:\.[\w-]+)+)" % WORD, arm, " " + body)[1:]
         # a step is a field of c itself, or of a name that stands for one
         body = re.sub(r"(?<=[\s(\[,;]c)\.(%s)" % WORD, field, " " + body)[1:]
-        # the test of `if !x` says of x itself what it is
-        body = re.sub(r"\(not-(?:true|false) _ (c\.if-not-%s\.(?:true|false))\)" % WORD, r"\1", body)
-        return re.sub(r"(?<![\w-])not-(?:true|false) _ (c\.if-not-%s\.(?:true|false))" % WORD, r"\1", body)
+        # the test of `if !x` says of the variable or the call x itself what it is; of a field it says `not x`
+        def plain(found):
+            name = found[2][len("if-not-") :]
+            return found[0] if re.search(r"!%s\.\w" % re.escape(name.split("-")[0]), self.source) else found[1]
+
+        body = re.sub(r"\(not-(?:true|false) _ (c\.(if-not-%s)\.(?:true|false))\)" % WORD, plain, body)
+        return re.sub(r"(?<![\w-])not-(?:true|false) _ (c\.(if-not-%s)\.(?:true|false))" % WORD, plain, body)
 
 
 def sources(root):
@@ -155,6 +162,7 @@ def convert(names, crate_dir, only):
     with open(os.path.join(names, "names.json"), encoding="utf-8") as it:
         listed = json.load(it)
     crate = os.path.basename(os.path.abspath(crate_dir))
+    SOURCE[0] = "\n".join(open(p, encoding="utf-8").read() for p in glob.glob(os.path.join(crate_dir, "src", "*.rt")))
     LENT.update(sources(os.path.join(os.path.abspath(crate_dir), "..", "..")))
     prefix = f"Rattle-{crate}-proofs."
     left = []

@@ -21,7 +21,7 @@ behind rs = after first rs
 pub after_more : (s : Position) (a b : List Row) → after s (a ++ b) ≡ after (after s a) b
 unfolding after
 after_more s [] b = refl
-after_more s (r ∷ a) b = after_more _ a b
+after_more s (r ∷ a) b = after_more (next_row s r) a b
 
 pub after_row : (s : Position) (a : List Row) → (after s a).row ≡ s.row + length a
 unfolding after

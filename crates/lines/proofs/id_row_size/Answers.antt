@@ -1,0 +1,10 @@
+-- `lines::id_row_size` meets its contract.
+-- Assumes nothing.
+use native.Mathlib.Omega.{arith}
+use lib.ListN.{length-append}
+use Rattle.writers.proofs.Texts.{sized}
+use Rattle.lines.proofs.Texts.{row_text_lem}
+use Rattle.lines.proofs.id_row_size.Goals as goal
+
+pub returns : goal.returns
+returns c = sized _ (row_text_lem _) (simp length-append (omega (arith, c.id_size.ensures))) (omega (arith, c.id_size.ensures))

@@ -1,0 +1,10 @@
+-- `lines::mark_line_size` meets its contract.
+-- Assumes nothing.
+use native.Mathlib.Omega.{arith}
+use lib.ListN.{length-append}
+use Rattle.writers.proofs.Texts.{sized}
+use Rattle.lines.proofs.Texts.{mark_text_lem}
+use Rattle.lines.proofs.mark_line_size.Goals as goal
+
+pub returns : goal.returns
+returns c = sized _ (mark_text_lem _) (simp length-append (omega (arith, c.id_size.ensures))) (omega (arith, c.id_size.ensures))
