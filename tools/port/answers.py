@@ -100,10 +100,11 @@ class Function:
             heads |= {m[0] for m in re.finditer(r"(?<=[\s(\[,;])c\.%s" % WORD, body) if self.steps.get(alike(m[0][2:].split(".")[0])) == step}
             for head in sorted(heads, key=lambda it: -len(it)):
                 def one(found):
+                    kind = {"last": "new", "kept": "auto"}.get(found[1], found[1])
                     deep = found[2].strip(".").split(".")
                     n = len(deep) - 1 if deep[-1] == "0" else len(deep)
                     if all(it == "1" for it in deep[:-1]) and n < len(lent):
-                        return f"{head}.{found[1]}.{lent[n]}"
+                        return f"{head}.{kind}.{lent[n]}"
                     return found[0]
 
                 body = re.sub(r"(?<![\w.-])%s\.(new|auto)((?:\.1)*\.[01])(?![\w-])" % re.escape(head), one, body)
@@ -113,7 +114,7 @@ class Function:
             parts = path.strip(".").split(".")
             for n in range(len(parts), 0, -1):
                 to = self.arms.get((alike(step), ".".join(parts[:n])))
-                if to and (parts[0] == "given"):
+                if to and re.match(r"given$|keys\d+$", parts[0]):
                     return "." + to + "".join("." + it for it in parts[n:])
             return found[0]
 
@@ -233,7 +234,8 @@ def convert(names, crate_dir, only):
                     goal = "UNKNOWN-" + need[1]
                 params, definition = re.match(r"%s\s+(.*?)=(.*)$" % re.escape(name), body, re.S).groups()
                 definition = f.turned(definition)
-                answers.append((name, goal, unfolding, definition))
+                more = [p for p in params.split()[1:] if p != "κs"]
+                answers.append((name, goal, unfolding, (" λ " + " ".join(more) + "." if more else "") + definition))
             elif "statement" in type_ or name.endswith("spec"):
                 spec = re.search(r"tie\.spec(.*)$", body, re.S)
                 if spec:
@@ -281,7 +283,8 @@ def convert(names, crate_dir, only):
             body = " ".join(found[2].split()) if len(found[2]) < 120 else found[2]
             if body.strip() in TRIVIAL:
                 continue
-            extra.append((None, goal, "", " " + f.turned(body)))
+            more = [p for p in found[1].split()[1:] if p != "κs"]
+            extra.append((None, goal, "", (" λ " + " ".join(more) + "." if more else "") + " " + f.turned(body)))
         uses = [u for u in uses if not re.search(r"\.(Statement|Tie)\b", u) and "Author.Rules" not in u]
         whole = answers + extra
         if invariants:

@@ -3,7 +3,7 @@
 use Rattle.std.specs.Prelude.{ℕ, ◌≡◌, Bool, eqb}
 use Rattle.std.proofs.Math.Path.{refl, ap, ap₂}
 use Rattle.std.proofs.Common.{sym, ◌∙◌}
-use Rattle.std.proofs.Math.Bool.{true, false, cond, not, and_false}
+use Rattle.std.proofs.Math.Bool.{true, false, cond, not, and-false}
 use mathlib.Core.List.{List, [], ◌∷◌, ◌++◌, append_assoc, append-nil}
 use Rattle.meaning.specs.Ways.{after}
 use Rattle.meaning.specs.Sheet.{Spot, Row}
@@ -68,7 +68,7 @@ here_none n meant f new (r ∷ X) e = rw e
 
 never : (n : ℕ) (X : List Row) → begins n (λ p. false) X ≡ false
 never n [] = refl
-never n (r ∷ X) = and_false (eqb r.depth n)
+never n (r ∷ X) = and-false (eqb r.depth n)
 
 pub step_on_lem : (n : ℕ) (pass : Spot → Bool) (new rs : List Row)
     → step_on_rows n pass new rs ≡ passed (over n pass) rs ++ (new ++ rest (over n pass) rs)

@@ -1,0 +1,81 @@
+-- `clear::clear_block` meets its contract: no tables that hold rows fail its tests, and what it leaves is said by proofs/Block.
+-- Assumes nothing.
+use native.Mathlib.Omega.{arith}
+use Rattle.clear.specs.Clear.{passing}
+use Rattle.clear.proofs.Block.{not_sitting, far_marks, far_values, block_done}
+use Rattle.clear.proofs.clear_block.Goals as goal
+
+pub returns-then-rows-heads : goal.returns-then-rows-heads
+returns-then-rows-heads c =
+    let t = c.if-rows-heads.true in
+    not_sitting c.args.d.at c.args.heads.now c.args.marks.now c.args.values.now c.args.c c.args.s
+    (λ z. omega arith)
+
+pub returns-then-row-rows : goal.returns-then-row-rows
+returns-then-row-rows c =
+    let t = c.if-row-rows.true in
+    not_sitting c.args.d.at c.args.heads.now c.args.marks.now c.args.values.now c.args.c c.args.s
+    (λ z. omega arith)
+
+pub returns-then-live-marks : goal.returns-then-live-marks
+returns-then-live-marks c =
+    let t = c.if-live-marks.true in
+    not_sitting c.args.d.at c.args.heads.now c.args.marks.now c.args.values.now c.args.c c.args.s
+    (λ z. omega arith)
+
+pub returns-then-mark-live : goal.returns-then-mark-live
+returns-then-mark-live c =
+    let t = c.if-mark-live.true in
+    not_sitting c.args.d.at c.args.heads.now c.args.marks.now c.args.values.now c.args.c c.args.s
+    (λ z. omega arith)
+
+pub returns-then-c-values : goal.returns-then-c-values
+returns-then-c-values c =
+    let t = c.if-c-values.true in
+    not_sitting c.args.d.at c.args.heads.now c.args.marks.now c.args.values.now c.args.c c.args.s
+    (λ z. omega arith)
+
+pub returns-then-s-c : goal.returns-then-s-c
+returns-then-s-c c =
+    let t = c.if-s-c.true in
+    not_sitting c.args.d.at c.args.heads.now c.args.marks.now c.args.values.now c.args.c c.args.s
+    (λ z. omega arith)
+
+pub returns-then-q-live : goal.returns-then-q-live
+returns-then-q-live c =
+    let p = c.clear_place-q in
+    let y = passing p.new.heads p.new.marks p.new.values p.result in
+    far_marks c.args.d.at c.args.heads.now c.args.marks.now c.args.values.now c.args.c c.args.s y
+    p.ensures c.if-q-live.true
+
+pub returns-then-q-words : goal.returns-then-q-words
+returns-then-q-words c =
+    let p = c.clear_place-q in
+    let y = passing p.new.heads p.new.marks p.new.values p.result in
+    far_values c.args.d.at c.args.heads.now c.args.marks.now c.args.values.now c.args.c c.args.s y
+    p.ensures c.if-q-words.true
+
+pub close-requires : goal.close-requires
+close-requires c =
+    let p = c.clear_place-q in
+    let w = p.ensures.within in
+    let l = p.auto.marks in
+    let i = c.if-q-live.false in
+    let j = c.if-live-marks.false in
+    (w.marks_low, i, omega arith)
+
+pub close-requires-2 : goal.close-requires-2
+close-requires-2 c =
+    let p = c.clear_place-q in
+    let w = p.ensures.within in
+    let l = p.auto.values in
+    let i = c.if-q-words.false in
+    let j = c.if-c-values.false in
+    (w.values_low, i, omega arith)
+
+pub returns : goal.returns
+returns c =
+    let p = c.clear_place-q in
+    let y = passing p.new.heads p.new.marks p.new.values p.result in
+    block_done c.args.d.at c.args.heads.now c.args.marks.now c.args.values.now c.args.c c.args.s y
+    p.ensures c.close.new.t c.close-2.new.t c.close.ensures c.close-2.ensures

@@ -1,0 +1,8 @@
+use Rattle.std.proofs.Common.{length, ◌≡◌, ℕ, ◌+◌, ◌-◌, ◌*◌, ◌<◌, ◌≤◌}
+use Rattle.finder.specs.Looks.{Looks}
+use Rattle.finder.specs.Follows.{FollowsUnder, Follows}
+use Rattle.finder.proofs.+follow_under.Given as goal
+
+-- the words that are left of the way
+abbrev pub decreases-follow_under : goal.decreases-follow_under
+decreases-follow_under l = length l.words.now

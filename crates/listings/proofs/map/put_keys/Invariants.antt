@@ -1,0 +1,17 @@
+-- `listings::map::put_keys` meets its contract. The loop's invariant: what is written, and what is still to come.
+-- Assumes nothing.
+use Prim.Native.Nat.{◌+◌}
+use native.Mathlib.Omega.{arith}
+use mathlib.Core.Path.{◌≡◌, refl}
+use Rattle.writers.proofs.Over.{Writing, last-room, same_long, wrote_as}
+use Rattle.writers.proofs.Runs.{begun, write_room, write_fits, write_more, write_all}
+use Rattle.listings.specs.Texts.{key_text, keys_from}
+use Rattle.listings.proofs.Mapped.{key_of_lem}
+use Rattle.listings.proofs.map.put_keys.Given as goal
+
+abbrev pub invariant-loop-left : goal.invariant-loop-left
+invariant-loop-left l = Writing (keys_from l.heads l.keys l.depth l.from l.n) l.initial.buf
+    (keys_from l.heads l.keys l.depth l.i l.left) l.buf l.at × (l.i + l.left ≡ l.from + l.n)
+
+abbrev pub decreases-loop-left : goal.decreases-loop-left
+decreases-loop-left l = l.left
