@@ -49,12 +49,16 @@ unfolding way_words
 three_words (insert p a) g = omega (arith, prev_three p)
 three_words (into_map k w) g = omega arith
 three_words (into_list e w) g = omega arith
+three_words (assign _) g = elim g [ ]
+three_words delete g = elim g [ ]
 
 one-step : (w : Way) → GoesOn w → 1 ≤ steps w
 unfolding steps
 one-step (insert p a) g = omega arith
 one-step (into_map k w) g = omega arith
 one-step (into_list e w) g = omega arith
+one-step (assign _) g = elim g [ ]
+one-step delete g = elim g [ ]
 
 goes_on : (w : Way) → (way_words w ≡ [] → ⊥) → GoesOn w
 unfolding way_words
@@ -69,6 +73,8 @@ unfolding makes
 goes_makes (insert p a) g = refl
 goes_makes (into_map k w) g = refl
 goes_makes (into_list e w) g = refl
+goes_makes (assign _) g = elim g [ ]
+goes_makes delete g = elim g [ ]
 
 module _ (h k m v : List ℕ) (rows : ℕ) (from : Position) (n : ℕ) (parent-known : Bool) (d : List ℕ) (deed : ℕ) (way : List ℕ) where
   -- it ends here

@@ -77,11 +77,17 @@ ends-makes (assign (plain v)) e = refl
 ends-makes (assign empty_map) e = refl
 ends-makes (assign empty_list) e = refl
 ends-makes delete e = refl
+ends-makes (insert _ _) e = elim e [ ]
+ends-makes (into_map _ _) e = elim e [ ]
+ends-makes (into_list _ _) e = elim e [ ]
 
 ends_found : (d : List ℕ) (n : ℕ) (w : Way) (rs : List Row) → Ends w → elements_found_rows d n w rs ≡ true
 unfolding elements_found_rows
 ends_found d n (assign a) rs e = refl
 ends_found d n delete rs e = refl
+ends_found d n (insert _ _) rs e = elim e [ ]
+ends_found d n (into_map _ _) rs e = elim e [ ]
+ends_found d n (into_list _ _) rs e = elim e [ ]
 
 ends_number : (w : Way) → Ends w → way_number w < 3
 unfolding way_number
@@ -89,6 +95,9 @@ ends_number (assign (plain v)) e = omega arith
 ends_number (assign empty_map) e = omega arith
 ends_number (assign empty_list) e = omega arith
 ends_number delete e = omega arith
+ends_number (insert _ _) e = elim e [ ]
+ends_number (into_map _ _) e = elim e [ ]
+ends_number (into_list _ _) e = elim e [ ]
 
 insert_number : (p : Prev) (a : Assigned) → 3 ≤ way_number (insert p a)
 unfolding way_number

@@ -83,6 +83,9 @@ module _ (d : List ℕ) (n : ℕ) (b : Block) (g : Lost) where
   place_is (assign empty_list) e h = cleared h
   place_is delete e h =
       record { found_is = refl; places = refl; marks = refl; values = refl; gone_marks = h.marks; gone-values = h.values }
+  place_is (insert _ _) e h = elim e [ ]
+  place_is (into_map _ _) e h = elim e [ ]
+  place_is (into_list _ _) e h = elim e [ ]
 
 pub place_weighed : (h m v : List ℕ) (rows : ℕ) (s : Sight) (d : List ℕ) (deed : ℕ) (g : Lost) (x y : ℕ)
     → SightGone h m v rows s (eqb deed 1) d g → x ≡ cond (eqb deed 0) 0 1 → y ≡ cond (eqb deed 1) 1 0 → x ≤ 1

@@ -7,12 +7,12 @@ use Rattle.forecast.proofs.sums.carry.Goals as goal
 pub returns-then-not-covers : goal.returns-then-not-covers
 unfolding carried
 returns-then-not-covers c =
-    rw (c.if-there.true, c.if-list.true, not-true c.args.covers c.if-not-covers.true)
+    rw (c.if-there.true, c.if-list.true, c.if-not-covers.true)
 
 pub returns-else-not-covers : goal.returns-else-not-covers
 unfolding carried
 returns-else-not-covers c =
-    rw (c.if-there.true, c.if-list.true, not-false c.args.covers c.if-not-covers.false)
+    rw (c.if-there.true, c.if-list.true, c.if-not-covers.false)
 
 pub returns-else-list : goal.returns-else-list
 unfolding carried

@@ -1,0 +1,8 @@
+use Rattle.std.proofs.Common.{length, ℕ, ◌<◌, ◌≤◌, List, ◌≡◌, ◌+◌, ◌-◌, ◌*◌}
+use Rattle.readers.specs.Hex.{words_in}
+use Rattle.forecast.specs.Weighs.{SightGone, PlaceWeighed, WayWeighed, Weighed}
+use Rattle.forecast.proofs.+weigh_way.Given as goal
+
+-- the words that are left of the way
+abbrev pub decreases-weigh_way : goal.decreases-weigh_way
+decreases-weigh_way l = length l.way.now
