@@ -186,7 +186,7 @@ plays =
     (op 1 1 0 0 m delete ∷ []) ∷
     []
 
-computed : map shown plays ≡ map wanted table
+pub examples : Claim
 unfolding play receipt_of ok ok_id ok_key ok_plain ok_assigned ok_prev ok_way ok_edit ok_counters
     covered at_most all_below ready keep smaller greater put order steps deletes makes clear_marks clear_values clear
     mark drop_values add_value on_map on_list give at_key at_element step_on step_from insert_after passing run change apply
@@ -194,7 +194,4 @@ unfolding play receipt_of ok ok_id ok_key ok_plain ok_assigned ok_prev ok_way ok
     receive dead able first without onward settle_in settle waits judge_ready judge_early judge finish
     digits width_from width decimal integer_text id_text comma_text counters_text hex_digit hex plain_text assigned_text
     prev_text steps_text do_text edit_text message rows rows_of spot_text line_text lines_text row_lines rows_lines sheet_lines sheet
-computed = refl
-
-pub examples : Claim
-examples = all_hold table plays computed
+examples = all_hold table plays refl

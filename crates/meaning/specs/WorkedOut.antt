@@ -297,7 +297,7 @@ works =
     work five saving (points 167) ∷
     []
 
-computed : map shown works ≡ map wanted table
+pub worked : Claim
 unfolding play receipt_of edited_of saved_of reading_of ok ok_id ok_key ok_plain ok_assigned ok_prev ok_way ok_edit ok_counters
     ok_trail ok_place ok_keys ok_ask ok_source cases_of start_of terminal_of call_of ask many points
     covered at_most all_below ready keep smaller greater put order steps deletes makes clear_marks clear_values clear
@@ -309,7 +309,4 @@ unfolding play receipt_of edited_of saved_of reading_of ok ok_id ok_key ok_plain
     keys values nth_element answer_read over save
     digits width_from width decimal integer_text id_text comma_text counters_text hex_digit hex plain_text assigned_text
     prev_text steps_text do_text edit_text message rows rows_of spot_text line_text lines_text row_lines rows_lines sheet_lines sheet
-computed = refl
-
-pub worked : Claim
-worked = all_hold table works refl computed
+worked = all_hold table works refl refl
