@@ -22,7 +22,7 @@ use Rattle.theorems.specs.Accepting.{fits_limits}
 use Rattle.theorems.specs.Soundness.{sound_apply}
 use Rattle.rows.specs.Balanced.{passed-rest, fresh_parts}
 use Rattle.rows.specs.Blocks.{passed, rest, key_below, over, apply_rows}
-use Rattle.rows.specs.Follows.{apply_rows_lem}
+use Rattle.rows.proofs.Follows.{apply_rows_lem}
 use Rattle.rows.specs.Within.{under_rows, apply_under}
 use Rattle.rows.specs.Counting.{Fresh}
 use Rattle.rows.specs.Room.{sound_fresh}

@@ -22,8 +22,9 @@ use Rattle.rows.specs.Locate.{Located, nowhere, here, locate_key, locate_element
 use Rattle.rows.specs.Counting.{Change, no_change, both, adds, give_change}
 use Rattle.rows.specs.Counting.{new_change, passing_change, new_block, found_change, is_prev, run_change}
 use Rattle.rows.specs.Counting.{change}
-use Rattle.rows.specs.Balanced.{apply_balance}
-use Rattle.rows.specs.Room.{room, room_for, sound_fresh, room_rows}
+use Rattle.rows.proofs.Balanced.{apply_balance}
+use Rattle.rows.specs.Room.{room, room_for, sound_fresh}
+use Rattle.rows.proofs.Room.{room_rows}
 use Rattle.tables.specs.Words.{Tables}
 use Rattle.tables.specs.declared.Counts.{Counts}
 use Rattle.forecast.specs.Weighs.{Weighs}

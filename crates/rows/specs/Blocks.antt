@@ -1,5 +1,5 @@
 -- The operation on rows. The sheet, and the tables in memory, are the list of a document's rows; this is what an operation does to it.
--- A place is its own row and, right behind it, the rows of what hangs under it, all of them deeper. Theorem (specs/Follows): applying an
+-- A place is its own row and, right behind it, the rows of what hangs under it, all of them deeper. Theorem (proofs/Follows): applying an
 -- operation to a document and then listing its rows is the same as listing them first and operating on the list.
 -- Assumes nothing: these are definitions.
 use Rattle.std.specs.Prelude.{ℕ, suc, Bool, true, false, cond, not, ◌&&◌, ◌||◌, List, [], ◌∷◌, ◌++◌, map, ltb, eqb}

@@ -5,7 +5,6 @@ pub mod Listing
 pub mod Seeking
 pub mod AtKeys
 pub mod AtElements
-pub mod Follows
 pub mod Locate
 pub mod Counting
 pub mod Balanced
