@@ -76,6 +76,8 @@ class Function:
         """A body over the walk's chain of states, as one over the goal's record c."""
         body = re.sub(r"(?:\.before)+(?![\w-])", "", body)
         body = re.sub(r"\.inv(?![\w-])", ".invariant", body)
+        body = re.sub(r"(\.if\d+)\.left(?![\w-])", r"\1.false", body)
+        body = re.sub(r"(\.if\d+)\.taken(?![\w-])", r"\1.true", body)
         body = re.sub(r"\.pre(?![\w-])", ".requires", body)
         body = body.replace(".well-formed", ".well_formed").replace(".type-inv", ".type_inv")
         # names for states

@@ -1,0 +1,48 @@
+-- `descend::descend` meets its contract. The measure: the words that are left of the way. Assumes nothing.
+use native.Mathlib.Omega.{arith}
+use mathlib.Core.Path.{refl, sym, ◌∙◌}
+use borrow.Author.Tests.{not-true, not-false}
+use lib.ListN.{length}
+use Rattle.descend.proofs.Descending.{part_is, part_shorter, descend_ends, descend_deep}
+use Rattle.descend.proofs.Descending.{descend_odd, descend_inserts, descend_stays, descend_finishes, descend_goes}
+use Prim.Native.Nat.{ℕ, ◌<◌}
+use borrow.Author.Rules.{rules}
+use Rattle.descend.proofs.+descend.Goals as goal
+
+pub returns-then-left-lt3 : goal.returns-then-left-lt3
+returns-then-left-lt3 t c =
+    descend_ends c.args.o _ _ _ _ _ (omega arith)
+
+pub returns-then-n-gt-DEEPEST : goal.returns-then-n-gt-DEEPEST
+returns-then-n-gt-DEEPEST t c =
+    descend_deep c.args.o _ _ _ _ _ (omega arith)
+
+pub returns-then-inserts_here : goal.returns-then-inserts_here
+returns-then-inserts_here t c =
+    descend_inserts c.args.o _ _ _ _ _ _ _ _ _ _ (sym c.inserts_here.ensures ∙ c.if-inserts_here.true) refl
+    refl (omega arith) c.put_element.ensures
+
+pub returns-then-not-x : goal.returns-then-not-x
+returns-then-not-x t c =
+    descend_stays c.args.o _ _ _ _ _ _ _ _ _ _ _ _ (omega (arith, c.if-left-lt3.false))
+    (sym c.inserts_here.ensures ∙ c.if-inserts_here.false) refl refl refl (omega (arith, c.if-left-lt3.false))
+    (omega (arith, c.if-n-gt-DEEPEST.false)) _ _ c.reach-x.result c.reach-x.ensures (not-true _ c.if-not-x.true)
+
+pub returns-then-left-eq3 : goal.returns-then-left-eq3
+returns-then-left-eq3 t c =
+    descend_finishes c.args.o _ _ _ _ _ _ _ _ _ _ _ _ (omega (arith, c.if-left-lt3.false))
+    (sym c.inserts_here.ensures ∙ c.if-inserts_here.false) refl refl refl (omega (arith, c.if-left-lt3.false))
+    (omega (arith, c.if-n-gt-DEEPEST.false)) _ _ c.reach-x.result c.reach-x.ensures _ _ _ _ _
+    (not-false _ c.if-not-x.false) c.if-left-eq3.true c.finish.ensures
+
+pub returns-then-left-lt6 : goal.returns-then-left-lt6
+returns-then-left-lt6 t c =
+    descend_odd c.args.o _ _ _ _ _ _ _ _ (omega (arith, c.if-left-lt3.false, c.if-left-eq3.false)) c.if-left-lt6.true
+
+pub returns : goal.returns
+returns t c =
+    descend_goes c.args.o _ _ _ _ _ _ _ _ _ _ _ _ (omega (arith, c.if-left-lt3.false))
+    (sym c.inserts_here.ensures ∙ c.if-inserts_here.false) refl refl refl (omega (arith, c.if-left-lt3.false))
+    (omega (arith, c.if-n-gt-DEEPEST.false)) _ _ c.reach-x.result c.reach-x.ensures _ _ _ _ _ _ _ _ _ _ _ _ _
+    (not-false _ c.if-not-x.false) c.if-left-lt6.false (part_is c.args.way.now) refl c.next_row-p.ensures
+    c.descend-e.ensures c.enter.ensures
