@@ -18,7 +18,7 @@ use Rattle.stream.specs.Pieces.{held, CutInside, Moved}
 use Rattle.stream.specs.declared.Cut.{Cut}
 use Rattle.stream.proofs.Pieces.{drop-take}
 use Rattle.stream.proofs.Moving.{grown_holds, grown_held}
-use Rattle.merge_run.specs.Run.{Answers, interruption, stopped, told, brought}
+use Rattle.merge_run.specs.Run.{interruption, stopped, told, brought}
 use Rattle.merge_run.specs.Promises.{read_bytes, lasts, fails, Came, ReadOn}
 use Rattle.merge_run.specs.declared.Input.{Input}
 
@@ -84,7 +84,7 @@ came_not {b} {c} got errno z word failed h t f e =
     (came_none got errno word h (subst (λ y. lt_z y (pos 0) ≡ true) f t))
 
 -- A read has brought as many bytes as it answered, since it answers no more than it had room for.
-read_long : (b : List ℕ) (c : Cut) (got : ℤ) → Answers (length b - c.to) got → length (read_bytes b c got) ≡ brought got
+read_long : (b : List ℕ) (c : Cut) (got : ℤ) → brought got ≤ length b - c.to → length (read_bytes b c got) ≡ brought got
 read_long b c (pos k) m = simp (length-take, length-drop) (omega (arith, m))
 read_long b c (negsuc k) m = refl
 
@@ -111,7 +111,7 @@ module _ {b a : List ℕ} {c room : Cut} (m : Moved b c a room) (part : List ℕ
   }
 
   -- `came` was told the answer and the error number of this read
-  pub reads_chunk : (got errno g e : ℤ) {r : Input} → Answers (length (take (length a - room.to) (drop room.to a))) got
+  pub reads_chunk : (got errno g e : ℤ) {r : Input} → brought got ≤ length (take (length a - room.to) (drop room.to a))
       → Came read room g e r → g ≡ got → e ≡ errno → ReadOn b c r read
   reads_chunk got errno g e {r} n h p q =
       let k : Came read room got errno r = subst (λ z. Came read room got z r) q (subst (λ z. Came read room z e r) p h) in
@@ -123,7 +123,7 @@ module _ {b a : List ℕ} {c room : Cut} (m : Moved b c a room) (part : List ℕ
           got = got;
           errno = errno;
           chunk = read_bytes read room got;
-          long = read_long read room got (subst (λ room. Answers room got) free n);
+          long = read_long read room got (subst (λ room. brought got ≤ room) free n);
         };
         holds = k.holds;
         reads = record {

@@ -2,7 +2,7 @@
 -- answered, which bytes it brought, and how reading ended. That the answers are those of the system, and the bytes those of standard
 -- input, no contract can say (docs/DECISIONS.md, 59): a run is 'some reads', and the proof of `read_on` names the answers.
 -- Assumes nothing: these are definitions.
-use Rattle.std.specs.Prelude.{ℕ, zero, suc, ◌≡◌, ◌≤◌, Bool, true, false, List, [], ◌∷◌, ◌++◌, map, eqb, ℤ, pos, negsuc, length}
+use Rattle.std.specs.Prelude.{ℕ, zero, suc, ◌≡◌, Bool, true, false, List, [], ◌∷◌, ◌++◌, map, eqb, ℤ, pos, negsuc, length}
 use Rattle.stream.specs.Pieces.{joined}
 
 -- what a read tells: reading goes on; the input has ended; reading has failed
@@ -26,11 +26,6 @@ abbrev pub told : ℤ → ℤ → Told
 told (pos zero) errno = end
 told (pos (suc k)) errno = onward
 told (negsuc k) errno = stopped (interruption errno)
-
--- what a read that has room for n bytes may answer: a negative number, or how many bytes it has brought, n at most
-abbrev pub Answers : ℕ → ℤ → Type 0
-Answers n (pos k) = k ≤ n
-Answers n (negsuc k) = Unit
 
 -- how many bytes a read has brought that answered this
 abbrev pub brought : ℤ → ℕ

@@ -7,7 +7,6 @@ ghost use Rattle.meaning.specs.Receive.{new_terminal};
 ghost use Rattle.tables.specs.Holding.{four};
 ghost use Rattle.stream.specs.Pieces.{CutInside};
 ghost use Rattle.keeping.specs.Keeping.{Keeps};
-ghost use Rattle.merge_run.specs.Run.{Answers};
 ghost use Rattle.merge_run.specs.Promises.{Came, ReadOn, TookAll, KeepsMerged, SheetOf, Printable};
 
 use keeping::State;
@@ -21,13 +20,6 @@ use waiting::WAITING;
 const EINTR: i32 = 4;
 
 const EIO: i32 = 5;
-
-// What a read answers, as the system does: how many bytes it has put into the buffer, and 0; or -1, and the error number.
-#[derive(Clone, Copy)]
-struct Answer {
-    got: isize,
-    errno: i32,
-}
 
 // The bytes that are read and not handed over; whether nothing more is read, since the input has ended or reading has failed; whether it
 // has failed, and the error number if it has.
@@ -45,22 +37,6 @@ struct Merged {
     state: State,
     ok: bool,
     errno: i32,
-}
-
-// One read of standard input, straight into the buffer.
-fn read_some(input: &mut Stdin, buf: &mut [u8]) -> Answer
-    ensures { Answers (length buf.new) result.got }
-{
-    match input.read(buf) {
-        Ok(n) => Answer {
-            got: n as isize,
-            errno: 0,
-        },
-        Err(e) => Answer {
-            got: -1,
-            errno: e.raw_os_error().unwrap_or(EIO),
-        },
-    }
 }
 
 // What a read that has answered `got` comes to: so many bytes are held behind those that were held. If it is negative, reading has failed,
@@ -94,9 +70,9 @@ fn came(buf: &[u8], held: Cut, got: isize, errno: i32) -> Input
     }
 }
 
-// Reads on behind the bytes that are held. There is room, so a read of no bytes is the input's end. The error number says something only if
-// the answer is negative; `came` looks at it only then. No contract ties what `came` is told to what was answered: the proof names it, and
-// runs show it (docs/DECISIONS.md, 59).
+// Reads on behind the bytes that are held. There is room, so a read of no bytes is the input's end. `came` is told the answer as the system
+// gives it: a number of bytes, or -1 and the error number. No contract ties what it is told to what was answered: the proof names it, and runs
+// show it (docs/DECISIONS.md, 59).
 fn read_on(input: &mut Stdin, buf: &mut [u8], c: Cut) -> Input
     requires cut_inside { CutInside buf.old c }
     requires from_in_bounds { c.to - c.from < length buf.old }
@@ -104,8 +80,13 @@ fn read_on(input: &mut Stdin, buf: &mut [u8], c: Cut) -> Input
 {
     let held = stream::make_room(buf, c);
     let to = held.to;
-    let Answer { got, errno } = read_some(input, &mut buf[to..]);
-    came(buf, held, got, errno)
+    match input.read(&mut buf[to..]) {
+        Ok(n) => came(buf, held, n as isize, 0),
+        Err(e) => {
+            let errno = e.raw_os_error().unwrap_or(EIO);
+            came(buf, held, -1, errno)
+        }
+    }
 }
 
 // Receives all messages of standard input into a new terminal: read by read, to the input's end, to a failure, or until 2^64 - 1 reads are
