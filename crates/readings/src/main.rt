@@ -1,6 +1,7 @@
 // Reads the message on standard input a million times, and says whether each reading gave an operation: the program that bench/reads times.
 #![tactic(auto)]
 
+// Where the answer is written.
 const STDOUT_FILENO: i32 = 1;
 
 // One reading.
