@@ -4,9 +4,8 @@
 .PHONY: demo test setup rust-test same vectors edits
 
 demo:
-	rt check merge
-	tools/run target/bin/merge <examples/five.messages
-	tools/run target/bin/merge <examples/bringup.messages
+	cd crates/merge && rt run <../../examples/five.messages
+	tools/run crates/merge/out/merge <examples/bringup.messages
 
 test: setup
 	@tools/gate
@@ -33,9 +32,9 @@ same:
 
 # the proved `replay` over the kept scripts and over those that are made of other seeds: make vectors SEEDS="2 3 4"
 vectors:
-	[ -x target/bin/replay ] || rt check replay >/dev/null
+	[ -x crates/replay/out/replay ] || (cd crates/replay && rt run </dev/null >/dev/null)
 	cd rust && cargo build --release --quiet
-	SEEDS="$(SEEDS)" tools/replays tools/run target/bin/replay
+	SEEDS="$(SEEDS)" tools/replays tools/run crates/replay/out/replay
 
 # the must-fail edits that the gate doesn't try (tools/edits): of all crates, or of those that CRATES names
 edits:

@@ -11,9 +11,8 @@ use lib.Signed.{lt_z}
 use lib.ListN.{length, take, drop, length-take, length-drop}
 use mir.Syntax.{w32}
 use mir.Val.{SFits, of_z}
-use borrow.Author.Tests.{ltb-true, eqb-true, ne_eqb}
+use borrow.Author.Tests.{ltb-true, ne_eqb}
 use borrow.Rule.Slice.PartMut.{put_mid, same_len_mid, take_put}
-use Rattle.libc.specs.Io as Io
 use Rattle.io.specs.Counts.{clamp_len}
 use Rattle.stream.specs.Pieces.{held, CutInside, Moved}
 use Rattle.stream.specs.declared.Cut.{Cut}
@@ -39,7 +38,7 @@ module _ (errno : ℤ) (room : ℕ) (free : 0 < room) where
 pub came_behind : {b : List ℕ} {c : Cut} (got errno z : ℤ) (n k : ℕ) → CutInside b c → c.to < length b → lt_z z (pos 0) ≡ false
     → n ≡ clamp_len z k → z ≡ got → k ≡ length b - c.to → n ≤ k
     → Came b c got errno
-    (record { cut = record { from = c.from; to = c.to + n; passing = c.passing }; ended = eqb n 0; failed = false })
+    (record { cut = record { from = c.from; to = c.to + n; passing = c.passing }; ended = eqb n 0; failed = false; errno = pos 0 })
 came_behind {b} {c} got errno z n k h free t e f g l =
     let fits : c.to + n ≤ length b = omega (arith, h.high) in
     let d : n ≡ clamp_len got (length b - c.to) = e ∙ (ap (λ y. clamp_len y k) f ∙ ap (clamp_len got) g) in
@@ -61,10 +60,10 @@ fails-stopped : (i : Bool) → not i ≡ fails (stopped i)
 fails-stopped true = refl
 fails-stopped false = refl
 
-came_none : {b : List ℕ} {c : Cut} (got errno : ℤ) → CutInside b c → lt_z got (pos 0) ≡ true
-    → Came b c got errno (record { cut = c; ended = not (interruption errno); failed = not (interruption errno) })
-came_none (pos k) errno h s = absurd (omega (arith, ltb-true k 0 s))
-came_none (negsuc k) errno h s = record {
+came_none : {b : List ℕ} {c : Cut} (got errno word : ℤ) → CutInside b c → lt_z got (pos 0) ≡ true
+    → Came b c got errno (record { cut = c; ended = not (interruption errno); failed = not (interruption errno); errno = word })
+came_none (pos k) errno word h s = absurd (omega (arith, ltb-true k 0 s))
+came_none (negsuc k) errno word h s = record {
   holds = h;
   reads = record { bytes = sym (append-nil _); passing = refl };
   ended = lasts-stopped (interruption errno);
@@ -76,16 +75,16 @@ pub bits_interruption : (errno : ℤ) → SFits w32 errno → not (eqb (of_z w32
 bits_interruption (pos n) f = refl
 bits_interruption (negsuc n) f = ap not (ne_eqb (4294967296 - suc n) 4 (λ e. omega (arith, f.sfits)))
 
-pub came_not : {b : List ℕ} {c : Cut} (got errno z : ℤ) (failed : Bool) → CutInside b c → lt_z z (pos 0) ≡ true → z ≡ got
-    → failed ≡ not (interruption errno) → Came b c got errno (record { cut = c; ended = failed; failed = failed })
-came_not {b} {c} got errno z failed h t f e =
+pub came_not : {b : List ℕ} {c : Cut} (got errno z word : ℤ) (failed : Bool) → CutInside b c → lt_z z (pos 0) ≡ true → z ≡ got
+    → failed ≡ not (interruption errno) → Came b c got errno (record { cut = c; ended = failed; failed = failed; errno = word })
+came_not {b} {c} got errno z word failed h t f e =
     subst
-    (λ i. Came b c got errno (record { cut = c; ended = i; failed = i }))
+    (λ i. Came b c got errno (record { cut = c; ended = i; failed = i; errno = word }))
     (sym e)
-    (came_none got errno h (subst (λ y. lt_z y (pos 0) ≡ true) f t))
+    (came_none got errno word h (subst (λ y. lt_z y (pos 0) ≡ true) f t))
 
 -- A read has brought as many bytes as it answered, since it answers no more than it had room for.
-read_long : (b : List ℕ) (c : Cut) (got : ℤ) → Io.Moved (length b - c.to) got → length (read_bytes b c got) ≡ brought got
+read_long : (b : List ℕ) (c : Cut) (got : ℤ) → brought got ≤ length b - c.to → length (read_bytes b c got) ≡ brought got
 read_long b c (pos k) m = simp (length-take, length-drop) (omega (arith, m))
 read_long b c (negsuc k) m = refl
 
@@ -112,7 +111,7 @@ module _ {b a : List ℕ} {c room : Cut} (m : Moved b c a room) (part : List ℕ
   }
 
   -- `came` was told the answer and the error number of this read
-  pub reads_chunk : (got errno g e : ℤ) {r : Input} → Io.Moved (length (take (length a - room.to) (drop room.to a))) got
+  pub reads_chunk : (got errno g e : ℤ) {r : Input} → brought got ≤ length (take (length a - room.to) (drop room.to a))
       → Came read room g e r → g ≡ got → e ≡ errno → ReadOn b c r read
   reads_chunk got errno g e {r} n h p q =
       let k : Came read room got errno r = subst (λ z. Came read room got z r) q (subst (λ z. Came read room z e r) p h) in
@@ -124,7 +123,7 @@ module _ {b a : List ℕ} {c room : Cut} (m : Moved b c a room) (part : List ℕ
           got = got;
           errno = errno;
           chunk = read_bytes read room got;
-          long = read_long read room got (subst (λ room. Io.Moved room got) free n);
+          long = read_long read room got (subst (λ room. brought got ≤ room) free n);
         };
         holds = k.holds;
         reads = record {

@@ -1,5 +1,5 @@
 -- Document 01, "The saved sheet", last paragraph: what the functions of `merge` promise, from reading to the bytes that are written. No
--- contract of `libc::read` says which bytes come, so 'the bytes that were read' are those that stand in the buffer behind the ones that
+-- contract of `read` says which bytes come, so 'the bytes that were read' are those that stand in the buffer behind the ones that
 -- were held, as many as the read answered (specs/Run).
 -- Assumes nothing: these are definitions.
 use Rattle.std.specs.Prelude.{ℕ, ◌-◌, ◌≡◌, Bool, true, false, List, ℤ, length, take, drop}

@@ -1,6 +1,6 @@
 -- Document 01, "The saved sheet", last paragraph: how `merge` reads standard input, as data: the reads one after another, what each
--- answered, which bytes it brought, and how reading ended. That the answers are those of `libc::read` and `os::errno`, and the bytes those
--- of standard input, no contract can say (docs/DECISIONS.md, 59): a run is 'some reads', and the proof of `read_on` names the answers.
+-- answered, which bytes it brought, and how reading ended. That the answers are those of the system, and the bytes those of standard
+-- input, no contract can say (docs/DECISIONS.md, 59): a run is 'some reads', and the proof of `read_on` names the answers.
 -- Assumes nothing: these are definitions.
 use Rattle.std.specs.Prelude.{ℕ, zero, suc, ◌≡◌, Bool, true, false, List, [], ◌∷◌, ◌++◌, map, eqb, ℤ, pos, negsuc, length}
 use Rattle.stream.specs.Pieces.{joined}

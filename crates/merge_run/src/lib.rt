@@ -10,26 +10,33 @@ ghost use Rattle.keeping.specs.Keeping.{Keeps};
 ghost use Rattle.merge_run.specs.Promises.{Came, ReadOn, TookAll, KeepsMerged, SheetOf, Printable};
 
 use keeping::State;
-use libc::{STDIN_FILENO, STDOUT_FILENO};
 use meaning::Saved;
+use std::io::{Error, Print, Read, Result, Stdin, Stdout};
 use stream::Cut;
 use tables::{HEADS, KEYS, MARKS, VALUES};
 use waiting::WAITING;
 
+// The system's error numbers of a read that was interrupted before a byte came, and of one that failed for no reason that is told.
+const EINTR: i32 = 4;
+
+const EIO: i32 = 5;
+
 // The bytes that are read and not handed over; whether nothing more is read, since the input has ended or reading has failed; whether it
-// has failed.
+// has failed, and the error number if it has.
 #[derive(Clone, Copy)]
 struct Input {
     cut: Cut,
     ended: bool,
     failed: bool,
+    errno: i32,
 }
 
-// The terminal when all is received; ok exactly if the input has ended.
+// The terminal when all is received; ok exactly if the input has ended, and else the error number.
 #[derive(Clone, Copy)]
 struct Merged {
     state: State,
     ok: bool,
+    errno: i32,
 }
 
 // What a read that has answered `got` comes to: so many bytes are held behind those that were held. If it is negative, reading has failed,
@@ -40,11 +47,12 @@ fn came(buf: &[u8], held: Cut, got: isize, errno: i32) -> Input
     ensures { Came buf.now held got errno result }
 {
     if got < 0 {
-        let failed = errno != libc::EINTR;
+        let failed = errno != EINTR;
         return Input {
             cut: held,
             ended: failed,
             failed,
+            errno,
         };
     }
     let to = held.to;
@@ -58,31 +66,34 @@ fn came(buf: &[u8], held: Cut, got: isize, errno: i32) -> Input
         cut,
         ended: n == 0,
         failed: false,
+        errno: 0,
     }
 }
 
-// Reads on behind the bytes that are held. There is room, so a read of no bytes is the input's end. `errno` says something only if the
-// answer is negative; `came` looks at it only then. No contract ties what `came` is told to what was answered: the proof names it, and runs
+// Reads on behind the bytes that are held. There is room, so a read of no bytes is the input's end. `came` is told the answer as the system
+// gives it: a number of bytes, or -1 and the error number. No contract ties what it is told to what was answered: the proof names it, and runs
 // show it (docs/DECISIONS.md, 59).
-fn read_on(buf: &mut [u8], c: Cut) -> Input
+fn read_on(input: &mut Stdin, buf: &mut [u8], c: Cut) -> Input
     requires cut_inside { CutInside buf.old c }
     requires from_in_bounds { c.to - c.from < length buf.old }
     ensures { ReadOn buf.old c result buf.new }
 {
     let held = stream::make_room(buf, c);
     let to = held.to;
-    let got = libc::read(STDIN_FILENO, &mut buf[to..]);
-    let errno = os::errno();
-    let r = came(buf, held, got, errno);
-    if r.failed {
-        os::fail(b"merge: standard input");
+    match input.read(&mut buf[to..]) {
+        Ok(n) => came(buf, held, n as isize, 0),
+        Err(e) => {
+            let errno = e.raw_os_error().unwrap_or(EIO);
+            came(buf, held, -1, errno)
+        }
     }
-    r
 }
 
 // Receives all messages of standard input into a new terminal: read by read, to the input's end, to a failure, or until 2^64 - 1 reads are
-// made. A proved loop has to end, and nothing says that the input does, so the turns are counted down from a number that no run uses up.
+// made. A proved loop has to end, and nothing says that the input does, so the turns are counted down from a number that no run uses up; if
+// one did, it would count as interrupted.
 fn receive_all(
+    input: &mut Stdin,
     heads: &mut [u64; HEADS],
     keys: &mut [u64; KEYS],
     marks: &mut [u64; MARKS],
@@ -104,9 +115,10 @@ fn receive_all(
         passing: false,
     };
     let mut ok = false;
+    let mut errno = EINTR;
     let mut turns = u64::MAX;
     while turns > 0 {
-        let r = read_on(buf, cut);
+        let r = read_on(input, buf, cut);
         let c = r.cut;
         let ended = r.ended;
         let f = feed::take_in(heads, keys, marks, values, waiting, state, buf, c, ended);
@@ -116,12 +128,13 @@ fn receive_all(
         cut = behind;
         if ended {
             ok = !r.failed;
+            errno = r.errno;
             turns = 0;
         } else {
             turns -= 1;
         }
     }
-    Merged { state, ok }
+    Merged { state, ok, errno }
 }
 
 // Writes the sheet into a buffer, and answers how many bytes it has. No sheet is longer than 65,536 bytes (`theorems`, `Sizes`).
@@ -148,45 +161,44 @@ fn whole_sheet(
     }
 }
 
-// Hands bytes to standard output, and only such as `merge` prints of an input that was read to its end. No contract of `io::write_all` says
-// what is written.
-fn write_out(bytes: &[u8])
+// Hands bytes to standard output, and only such as `merge` prints of an input that was read to its end. No contract of `write_all` says what
+// is written; an `Err` may leave a part of them written.
+fn write_out(output: Stdout, bytes: &[u8]) -> Result<()>
     requires { Printable bytes.now }
 {
-    if !io::write_all(STDOUT_FILENO, bytes) {
-        os::fail(b"merge: standard output");
-    }
+    output.write_all(bytes)
 }
 
 // Writes the first n bytes of a buffer.
-fn write_first(buf: &[u8], n: usize)
+fn write_first(output: Stdout, buf: &[u8], n: usize) -> Result<()>
     requires n_in_bounds { n ≤ length buf.now }
     requires printable { Printable (take n buf.now) }
 {
-    write_out(&buf[..n]);
+    write_out(output, &buf[..n])
 }
 
 // Prints the sheet.
 fn print(
+    output: Stdout,
     heads: &[u64; HEADS],
     keys: &[u64; KEYS],
     marks: &[u64; MARKS],
     values: &[u64; VALUES],
     s: State,
-)
+) -> Result<()>
     requires { KeepsMerged (four heads.now keys.now marks.now values.now) s }
 {
     let mut space = [0u8; 65536];
     let buf: &mut [u8] = &mut space;
     let n = whole_sheet(heads, keys, marks, values, s, buf);
-    write_first(buf, n);
+    write_first(output, buf, n)
 }
 
 // Reads standard input to its end and prints the sheet. If reading fails, or 2^64 - 1 reads don't come to the end, nothing is handed to
-// standard output. Proved: the bytes that are handed to `io::write_all` are the sheet of the terminal that has received the messages of the
-// bytes that came, one after another. That these are the bytes of standard input, and that what is handed over is written, no contract of
-// `libc` says.
-pub fn merge() {
+// standard output and the error is returned, as it is if writing fails. Proved: the bytes that are handed to `write_all` are the sheet of the
+// terminal that has received the messages of the bytes that came, one after another. That these are the bytes of standard input, and that
+// what is handed over is written, no contract of `std` says.
+pub fn merge(mut input: Stdin, output: Stdout) -> Result<()> {
     let mut heads = [0u64; HEADS];
     let mut keys = [0u64; KEYS];
     let mut marks = [0u64; MARKS];
@@ -195,6 +207,7 @@ pub fn merge() {
     let mut buf = [0u8; 4096];
     let s = terminal::empty();
     let m = receive_all(
+        &mut input,
         &mut heads,
         &mut keys,
         &mut marks,
@@ -206,6 +219,7 @@ pub fn merge() {
     let ok = m.ok;
     if ok {
         let state = m.state;
-        print(&heads, &keys, &marks, &values, state);
+        return print(output, &heads, &keys, &marks, &values, state);
     }
+    Err(Error::from_raw_os_error(m.errno))
 }

@@ -6,10 +6,14 @@ ghost use Rattle.std.specs.Prelude.{◌≤◌, ◌<◌, ◌≡◌, true};
 ghost use Rattle.stream.specs.Pieces.{CutInside};
 
 use keeping::State;
-use libc::{STDIN_FILENO, STDOUT_FILENO};
 use stream::Cut;
 use tables::{HEADS, KEYS, MARKS, VALUES};
 use waiting::WAITING;
+
+// Where the script is read and where the answers are written.
+const STDIN_FILENO: i32 = 0;
+
+const STDOUT_FILENO: i32 = 1;
 
 // The bytes of the script that are held, and whether no byte follows them.
 #[derive(Clone, Copy)]

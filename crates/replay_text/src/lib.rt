@@ -1,8 +1,10 @@
 // What the parts of the program `replay` share (docs/REPLAY.md): a call whose first line has one number, and the lines of answers.
 #![tactic(auto)]
 
-use libc::STDOUT_FILENO;
 use script::{Asked, BlockFound};
+
+// Where the answers are written.
+const STDOUT_FILENO: i32 = 1;
 
 // The longest buffer, and what it is full of ahead of a call.
 pub const LONGEST_BUFFER: usize = 65536;

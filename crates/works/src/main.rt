@@ -8,12 +8,16 @@ mod calls;
 
 use calls::{CALLS, Played, RECEIVE, find, find_all, make_all};
 use keeping::State;
-use libc::{STDIN_FILENO, STDOUT_FILENO};
 use readers::Past;
 use replay_text::LONGEST_BUFFER;
 use script::{Asked, part};
 use tables::{HEADS, KEYS, MARKS, VALUES};
 use waiting::WAITING;
+
+// Where the script is read and where the answer is written.
+const STDIN_FILENO: i32 = 0;
+
+const STDOUT_FILENO: i32 = 1;
 
 // Where the calls behind the messages begin, and the terminal's state there.
 #[derive(Clone, Copy)]
