@@ -1,0 +1,7 @@
+-- An operation that was judged so is taken, from where the search for its first key stops.
+use Rattle.apply.proofs.Carrying.{takes_at}
+use Rattle.apply.proofs.take_at.Goals as goal
+
+pub returns : goal.returns
+returns c =
+    takes_at _ _ _ c.args.op _ _ _ _ c.carry_out-counts.ensures c.raise-after.ensures
