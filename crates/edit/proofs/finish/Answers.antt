@@ -1,0 +1,13 @@
+-- `edit::finish` meets its contract: its message doesn't fit; or it is applied and written, and what waits is settled.
+-- Assumes nothing.
+use Rattle.edit.proofs.Editing.{finish-short, finish-applied}
+use Rattle.edit.proofs.finish.Goals as goal
+
+pub returns-then-buf-needed : goal.returns-then-buf-needed
+returns-then-buf-needed c =
+    finish-short _ _ _ _ _ c.args.op c.args.lines.now _ c.message_size-needed.ensures c.if-buf-needed.true
+
+pub returns : goal.returns
+returns c =
+    finish-applied _ _ _ _ _ c.args.op c.args.lines.now _ c.message_size-needed.ensures c.if-buf-needed.false _ _
+    c.take_at-o.ensures _ _ c.put_message-written.ensures _ _ _ c.settle-r.ensures
