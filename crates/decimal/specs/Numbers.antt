@@ -1,6 +1,6 @@
 -- Document 01, "Messages": numbers without a sign, as they are read and written.
 -- Assumes nothing: these are definitions.
-use Rattle.std.specs.Prelude.{ℕ, ◌≤◌, ◌≡◌, Bool, false, List, [], ◌∷◌}
+use Rattle.std.specs.Prelude.{ℕ, ◌≤◌, ◌≡◌, false, List, [], ◌∷◌}
 use Rattle.meaning.specs.Text.{width, decimal}
 use Rattle.theorems.specs.Decimal.{is_digit}
 use Rattle.decimal.specs.Take.{Layout, Took, Never}

@@ -6,13 +6,13 @@ use Rattle.std.specs.Prelude.{ℕ, zero, suc, ◌≡◌, true, false, List, [], 
 use Prim.Native.String.{String}
 use Rattle.meaning.specs.Ascii.{ascii, page}
 use Rattle.meaning.specs.Ids.{id_of}
-use Rattle.meaning.specs.Places.{Value, integer, place, childless, child, empty, Document}
+use Rattle.meaning.specs.Places.{Value, integer, place, childless, child, empty}
 use Rattle.meaning.specs.Answers.{Answer, done, only, short, edited_answer, saved_answer, reading_answer}
 use Rattle.meaning.specs.Members.{All}
 use Rattle.meaning.specs.Receive.{Terminal, new_terminal}
 use Rattle.meaning.specs.Sheet.{sheet}
 use Rattle.meaning.specs.Promises.{Edits, Saves, ReadsKeys, ReadsValues, ReadsElement}
-use Rattle.meaning.specs.Examples.{Answered, sheet1, empty_sheet, m1, m2, m3, m4, m5, a1, a2, m}
+use Rattle.meaning.specs.Examples.{Answered, sheet1, m1, m2, m3, m4, m5, a1, a2, m}
 use Rattle.meaning.specs.declared.Edited.{Edited}
 use Rattle.meaning.specs.declared.Saved.{Saved}
 use Rattle.meaning.specs.declared.Reading.{Reading}

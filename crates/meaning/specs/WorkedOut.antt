@@ -1,7 +1,7 @@
 -- The worked edits, reads and saves hold. What each call says is given; that it is valid, that its text is the call's, what is answered,
 -- written and held then, is computed.
 -- Assumes nothing.
-use Rattle.std.specs.Prelude.{ℕ, max, ◌≡◌, refl, Bool, true, false, ◌&&◌, leb, length}
+use Rattle.std.specs.Prelude.{ℕ, ◌≡◌, refl, Bool, true, ◌&&◌, leb}
 use Rattle.std.proofs.Common.{sym, ap, subst, ◌∙◌, leb-true}
 use mathlib.Core.List.{List, [], ◌∷◌, map, nil≢cons, head-eq_of_cons-eq, tail-eq_of_cons-eq}
 use Rattle.meaning.specs.Ascii.{ascii}

@@ -1,7 +1,7 @@
 -- Document 01, "Messages": values as they are read, an enum case each; a string's words stand beside it.
 -- Assumes nothing: these are definitions.
 use Rattle.std.specs.Prelude.{ℕ, ◌≡◌, true, false, List, [], pos, negsuc, length}
-use Rattle.meaning.specs.Places.{Plain, null, bool, integer, string}
+use Rattle.meaning.specs.Places.{null, bool, integer, string}
 use Rattle.meaning.specs.Ways.{Assigned, plain, empty_map, empty_list}
 use Rattle.decimal.specs.Take.{Layout, Took, Never}
 use Rattle.readers.specs.Words.{words_of, value_words}

@@ -1,18 +1,16 @@
 -- Document 01, "Messages": what each reader takes. A layout says which things are valid, their texts, and what may follow; a reader answers
 -- the thing whose text stands at a place, or that none does.
 -- Assumes nothing: these are definitions, and two laws of `either`.
-use Rattle.std.specs.Prelude.{ℕ, ◌≤◌, ◌≡◌, Bool, true, false, List, [], ◌∷◌, ◌++◌, ℤ, pos, negsuc, length}
+use Rattle.std.specs.Prelude.{ℕ, ◌≤◌, ◌≡◌, Bool, true, false, List, ◌++◌, ℤ, pos, negsuc}
 use Rattle.std.proofs.Common.{sym, true≢false}
 use Rattle.meaning.specs.Places.{Plain, null, bool, integer, string}
 use Rattle.meaning.specs.Ways.{Assigned, plain, empty_map, empty_list}
 use Rattle.meaning.specs.Valid.{ValidId, ValidCounters, ValidKey, ValidString, ValidPlain, ValidAssigned}
 use Rattle.meaning.specs.Ascii.{ascii}
 use Rattle.meaning.specs.Text.{decimal, integer_text, id_text, counters_text, hex, plain_text, assigned_text}
-use Rattle.meaning.specs.declared.Counters.{Counters}
 use Rattle.theorems.specs.Decimal.{Stops}
 use Rattle.decimal.specs.Take.{Layout, Took, Never, fixed}
 use Rattle.decimal.specs.Numbers.{NoDigit}
-use Rattle.readers.specs.Words.{key_words, words_of, value_words}
 use Rattle.readers.specs.declared.Past.{Past}
 use Rattle.readers.specs.declared.Past.TheVariants as P
 use Rattle.readers.specs.declared.IdRead.{IdRead}

@@ -2,19 +2,19 @@
 -- first. Rows that are shallower end what hangs under the place, and make no difference: `rows-within`, `change-within`, `found_within`.
 -- So code goes down a way without looking for the end of each block.
 -- Assumes nothing.
-use Rattle.std.specs.Prelude.{ℕ, suc, ◌≤◌, ◌≡◌, Bool, ◌&&◌}
-use Rattle.std.proofs.Common.{arith, ap₂, ◌∙◌, le-ltb, ltb-false, ne_eqb}
+use Rattle.std.specs.Prelude.{ℕ, suc, ◌≡◌, Bool, ◌&&◌}
+use Rattle.std.proofs.Common.{arith, ◌∙◌, le-ltb, ltb-false, ne_eqb}
 use Rattle.std.proofs.Math.Path.{refl, sym, ap}
 use Rattle.std.proofs.Math.Bool.{true, false, cond, not}
 use mathlib.Core.List.{List, [], ◌∷◌, ◌++◌, append_assoc, append-nil}
 use Rattle.meaning.specs.Ids.{covered}
-use Rattle.meaning.specs.Ways.{Assigned, Prev, head, after, Way, assign, delete, insert, into_map, into_list, Operation, deletes, makes}
+use Rattle.meaning.specs.Ways.{Prev, head, after, Way, assign, delete, insert, into_map, into_list, Operation, deletes, makes}
 use Rattle.meaning.specs.Sheet.{Spot, in_map, in_list, Row}
-use Rattle.rows.specs.Blocks.{passed, rest, Block, join, new_row, map_row, list_row, deeper, is_id, is_greater, over, at}
+use Rattle.rows.specs.Blocks.{passed, rest, Block, join, map_row, list_row, deeper, is_id, is_greater, over, at}
 use Rattle.rows.specs.Blocks.{on_block, change_here, seek_rows, at_key_rows, at_element_rows, step_on_rows, behind_rows, insert_rows}
 use Rattle.rows.specs.Blocks.{give_block, passing_row, run_block, apply_rows}
 use Rattle.rows.specs.Spans.{Shallow}
-use Rattle.rows.specs.Locate.{Located, nowhere, here, locate_here, locate, locate_key, locate_element, under_of, is_located}
+use Rattle.rows.specs.Locate.{nowhere, here, locate_here, locate, locate_key, locate_element, under_of, is_located}
 use Rattle.rows.specs.Locate.{elements_found_rows, astray_rows}
 use Rattle.rows.specs.Counting.{Change, no_change, both, new_change, passing_change, new_block, found_change, is_prev, run_change, change}
 

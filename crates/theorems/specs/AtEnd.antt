@@ -1,6 +1,6 @@
 -- One more at the end of a map or of a list: its rows, and that it stays sound.
 -- Assumes nothing.
-use Rattle.std.specs.Prelude.{ℕ, suc, ◌+◌, ◌-◌, ◌≤◌, ◌≡◌, refl, List, [], ◌∷◌, ◌++◌}
+use Rattle.std.specs.Prelude.{ℕ, suc, ◌≤◌, ◌≡◌, refl, List, [], ◌∷◌, ◌++◌}
 use Rattle.std.proofs.Common.{sym, ap, ◌∙◌, subst, append_assoc, append-nil}
 use mathlib.Core.List.{reverse_aux}
 use Rattle.meaning.specs.Places.{before, order, Place, place, Children, childless, child, Elements, empty, element}

@@ -5,7 +5,7 @@ use Rattle.std.proofs.Common.{arith, ◌∙◌, true≢false}
 use Rattle.std.proofs.Math.Path.{sym, ap, subst}
 use mathlib.Core.List.{List, [], ◌∷◌, ◌++◌, append_assoc, append-nil, reverse, reverse-cons, reverse-reverse}
 use mathlib.Core.List.{reverse_aux, reverse_aux-append}
-use Rattle.meaning.specs.Places.{order, Place, place, Children, childless, child, Elements, empty, element}
+use Rattle.meaning.specs.Places.{Place, place, Children, childless, child, Elements, empty, element}
 use Rattle.meaning.specs.Members.{Has, own}
 use Rattle.meaning.specs.Sheet.{Spot, in_map, in_list, Row, row_of, rows, rows_children, rows_elements}
 use Rattle.meaning.specs.Load.{Parent, root, under, parent, eldest, elder, last_depth, Seen, HasBranch, Follows}

@@ -1,6 +1,5 @@
 -- An operation is judged, and taken if it may be.
 use mathlib.Core.Path.{refl, sym, ◌∙◌}
-use borrow.Author.Tests.{not-true, not-false}
 use Rattle.judging.proofs.Judged.{judges_early, judges_refused, judges_ready}
 use Rattle.apply.proofs.Carrying.{takes_on, applies_refused, applies_taken}
 use Rattle.apply.proofs.apply.Goals as goal

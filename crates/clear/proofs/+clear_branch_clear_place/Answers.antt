@@ -1,14 +1,11 @@
 -- `clear::clear_place` and `clear::clear_branch`, which call each other, meet their contracts. The measure is twice the levels that are
 -- left,
 -- and one more for a place. The loop's invariant: the rows gone over are cleared (proofs/Branch). Assumes nothing.
-use Prim.Native.Nat.{ℕ, ◌+◌, ◌-◌, ◌<◌}
-use mathlib.Core.Path.{◌≡◌, refl, ◌∙◌}
+use mathlib.Core.Path.{refl, ◌∙◌}
 use native.Mathlib.Omega.{arith}
-use lib.ListN.{length}
 use Rattle.tables.specs.Heads.{depth_said}
 use Rattle.clear.specs.Clear.{passing}
-use Rattle.clear.proofs.Branch.{Walks, walks_start, walks_end, walks_stop, walks_on, branch_none, row_starts, place_done}
-use borrow.Author.Rules.{rules}
+use Rattle.clear.proofs.Branch.{walks_start, walks_end, walks_stop, walks_on, branch_none, row_starts, place_done}
 use Rattle.clear.proofs.+clear_branch_clear_place.Goals as goal
 
 pub clear_branch-returns-then-left-eq0 : goal.clear_branch-returns-then-left-eq0

@@ -1,8 +1,5 @@
-use Prim.Native.Nat.{◌≤◌, ◌-◌}
-use mathlib.Core.Path.{◌≡◌, refl, sym, ◌∙◌}
+use mathlib.Core.Path.{refl, sym, ◌∙◌}
 use native.Mathlib.Omega.{arith}
-use lib.ListN.{drop}
-use Rattle.meaning.specs.Ids.{all_below}
 use Rattle.counters.proofs.Entries.{all_below_goes, all_below_stops, all_below_ends}
 use Rattle.counters.proofs.all_below.Goals as goal
 

@@ -1,10 +1,8 @@
 -- `counters::all_below` meets its contract: the entries before k decide nothing. Assumes nothing.
 use Prim.Native.Nat.{◌≤◌, ◌-◌}
-use mathlib.Core.Path.{◌≡◌, refl, sym, ◌∙◌}
-use native.Mathlib.Omega.{arith}
+use mathlib.Core.Path.{◌≡◌}
 use lib.ListN.{drop}
 use Rattle.meaning.specs.Ids.{all_below}
-use Rattle.counters.proofs.Entries.{all_below_goes, all_below_stops, all_below_ends}
 use Rattle.counters.proofs.all_below.Given as goal
 
 abbrev pub invariant-loop-k : goal.invariant-loop-k

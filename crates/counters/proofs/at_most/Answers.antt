@@ -1,8 +1,5 @@
-use Prim.Native.Nat.{◌≤◌, ◌-◌}
-use mathlib.Core.Path.{◌≡◌, refl, sym, ◌∙◌}
+use mathlib.Core.Path.{refl, sym, ◌∙◌}
 use native.Mathlib.Omega.{arith}
-use lib.ListN.{drop}
-use Rattle.meaning.specs.Ids.{at_most}
 use Rattle.counters.proofs.Entries.{at_most_goes, at_most_stops, at_most_ends}
 use Rattle.counters.proofs.at_most.Goals as goal
 

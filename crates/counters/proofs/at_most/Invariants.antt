@@ -1,10 +1,8 @@
 -- `counters::at_most` meets its contract: the entries before k decide nothing. Assumes nothing.
 use Prim.Native.Nat.{◌≤◌, ◌-◌}
-use mathlib.Core.Path.{◌≡◌, refl, sym, ◌∙◌}
-use native.Mathlib.Omega.{arith}
+use mathlib.Core.Path.{◌≡◌}
 use lib.ListN.{drop}
 use Rattle.meaning.specs.Ids.{at_most}
-use Rattle.counters.proofs.Entries.{at_most_goes, at_most_stops, at_most_ends}
 use Rattle.counters.proofs.at_most.Given as goal
 
 abbrev pub invariant-loop-k : goal.invariant-loop-k

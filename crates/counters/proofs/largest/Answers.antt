@@ -1,8 +1,4 @@
-use Prim.Native.Nat.{◌≤◌, ◌-◌, max}
-use mathlib.Core.Path.{◌≡◌}
 use native.Mathlib.Omega.{arith}
-use lib.ListN.{drop}
-use Rattle.meaning.specs.Edit.{largest}
 use Rattle.counters.proofs.Entries.{largest_goes, largest-ends}
 use Rattle.counters.proofs.largest.Goals as goal
 use Rattle.counters.proofs.largest.Goals.{then-x-m, else-x-m}

@@ -1,11 +1,8 @@
 -- `counters::largest` meets its contract: m is the largest entry before k. Assumes nothing.
 use Prim.Native.Nat.{◌≤◌, ◌-◌, max}
 use mathlib.Core.Path.{◌≡◌}
-use mathlib.Core.Logic.{⊎_elim}
-use native.Mathlib.Omega.{arith}
 use lib.ListN.{drop}
 use Rattle.meaning.specs.Edit.{largest}
-use Rattle.counters.proofs.Entries.{largest_goes, largest-ends}
 use Rattle.counters.proofs.largest.Given as goal
 
 abbrev pub invariant-loop-k : goal.invariant-loop-k

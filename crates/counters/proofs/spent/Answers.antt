@@ -1,8 +1,5 @@
-use Prim.Native.Nat.{◌≤◌, ◌-◌}
-use mathlib.Core.Path.{◌≡◌, refl, sym, ◌∙◌}
+use mathlib.Core.Path.{refl, sym, ◌∙◌}
 use native.Mathlib.Omega.{arith}
-use lib.ListN.{drop}
-use Rattle.meaning.specs.Edit.{spent}
 use Rattle.counters.proofs.Entries.{spent_goes, spent_stops, spent_ends}
 use Rattle.counters.proofs.spent.Goals as goal
 

@@ -1,10 +1,8 @@
 -- `counters::spent` meets its contract: the entries before k decide nothing. Assumes nothing.
 use Prim.Native.Nat.{◌≤◌, ◌-◌}
-use mathlib.Core.Path.{◌≡◌, refl, sym, ◌∙◌}
-use native.Mathlib.Omega.{arith}
+use mathlib.Core.Path.{◌≡◌}
 use lib.ListN.{drop}
 use Rattle.meaning.specs.Edit.{spent}
-use Rattle.counters.proofs.Entries.{spent_goes, spent_stops, spent_ends}
 use Rattle.counters.proofs.spent.Given as goal
 
 abbrev pub invariant-loop-k : goal.invariant-loop-k

@@ -1,9 +1,6 @@
 -- `decimal::decimal_size` meets its contract. The loop's invariant: no power that was passed is above v.
 -- Assumes nothing.
 use Prim.Native.Nat.{◌-◌, ◌^◌, ◌≤◌, ◌<◌}
-use native.Mathlib.Omega.{arith}
-use mathlib.Core.Path.{◌≡◌, subst}
-use Rattle.decimal.proofs.Table.{power, size_is, passed}
 use Rattle.decimal.proofs.decimal_size.Given as goal
 
 abbrev pub invariant-loop-n : goal.invariant-loop-n

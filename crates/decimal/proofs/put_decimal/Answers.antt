@@ -1,5 +1,5 @@
 use native.Mathlib.Omega.{arith}
-use Rattle.decimal.proofs.Runs.{Writing, unwritten, one_more, written}
+use Rattle.decimal.proofs.Runs.{unwritten, one_more, written}
 use Rattle.decimal.proofs.put_decimal.Goals as goal
 
 pub returns : goal.returns

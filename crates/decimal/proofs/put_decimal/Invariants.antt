@@ -1,8 +1,7 @@
 -- `decimal::put_decimal` meets its contract. The loop's invariant, `Writing`: the digits from i on are written, and x is what stands
 -- before them.
 -- Assumes nothing.
-use native.Mathlib.Omega.{arith}
-use Rattle.decimal.proofs.Runs.{Writing, unwritten, one_more, written}
+use Rattle.decimal.proofs.Runs.{Writing}
 use Rattle.decimal.proofs.put_decimal.Given as goal
 
 abbrev pub invariant-loop-i : goal.invariant-loop-i

@@ -1,9 +1,9 @@
 use Prim.Native.Nat.{◌-◌}
 use native.Mathlib.Omega.{arith}
 use mathlib.Core.Path.{refl}
-use lib.ListN.{length, get_or}
+use lib.ListN.{get_or}
 use Rattle.meaning.specs.Ascii.{byte}
-use Rattle.decimal.proofs.Runs.{Run, start, low_stops, high_stops, end_stops, more, above, settled}
+use Rattle.decimal.proofs.Runs.{start, low_stops, high_stops, end_stops, more, above, settled}
 use Rattle.decimal.proofs.take_decimal.Goals as goal
 
 pub returns-then-b-lt48 : goal.returns-then-b-lt48

@@ -1,11 +1,8 @@
 -- `decimal::take_decimal` meets its contract. The loop's invariant, `Run`: what was passed are digits, and v is their number.
 -- Assumes nothing.
 use Prim.Native.Nat.{◌-◌}
-use native.Mathlib.Omega.{arith}
-use mathlib.Core.Path.{refl}
-use lib.ListN.{length, get_or}
-use Rattle.meaning.specs.Ascii.{byte}
-use Rattle.decimal.proofs.Runs.{Run, start, low_stops, high_stops, end_stops, more, above, settled}
+use lib.ListN.{length}
+use Rattle.decimal.proofs.Runs.{Run}
 use Rattle.decimal.proofs.take_decimal.Given as goal
 
 abbrev pub invariant-loop-i : goal.invariant-loop-i

@@ -2,11 +2,8 @@
 use native.Mathlib.Omega.{arith}
 use mathlib.Core.Path.{refl, sym, ◌∙◌}
 use borrow.Author.Tests.{not-true, not-false}
-use lib.ListN.{length}
-use Rattle.descend.proofs.Descending.{part_is, part_shorter, descend_ends, descend_deep}
+use Rattle.descend.proofs.Descending.{part_is, descend_ends, descend_deep}
 use Rattle.descend.proofs.Descending.{descend_odd, descend_inserts, descend_stays, descend_finishes, descend_goes}
-use Prim.Native.Nat.{ℕ, ◌<◌}
-use borrow.Author.Rules.{rules}
 use Rattle.descend.proofs.+descend.Goals as goal
 
 pub returns-then-left-lt3 : goal.returns-then-left-lt3

@@ -1,7 +1,5 @@
-use Prim.Native.Nat.{◌-◌}
 use native.Mathlib.Omega.{arith}
-use Rattle.tables.specs.Holding.{four}
-use Rattle.feed.proofs.Feeding.{Going, going_none, going_on, going_ends}
+use Rattle.feed.proofs.Feeding.{going_none, going_on, going_ends}
 use Rattle.feed.proofs.take_in.Goals as goal
 
 pub take_one-r-requires : goal.take_one-r-requires

@@ -1,8 +1,7 @@
 -- `feed::take_in` meets its contract. The invariant: what has been fed so far. Each piece ends behind the one before it. Assumes nothing.
 use Prim.Native.Nat.{◌-◌}
-use native.Mathlib.Omega.{arith}
 use Rattle.tables.specs.Holding.{four}
-use Rattle.feed.proofs.Feeding.{Going, going_none, going_on, going_ends}
+use Rattle.feed.proofs.Feeding.{Going}
 use Rattle.feed.proofs.take_in.Given as goal
 
 abbrev pub invariant-loop-state : goal.invariant-loop-state

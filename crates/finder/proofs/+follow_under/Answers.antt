@@ -1,10 +1,6 @@
 -- `finder::follow_under` meets its contract. The measure: the words that are left of the way. Assumes nothing.
-use native.Mathlib.Omega.{arith}
 use borrow.Author.Tests.{not-true, not-false}
-use Rattle.finder.proofs.Follows.{follows_short, follows_deep, follows_missing, follows_unmarked, follows_standing, follows_on}
-use Prim.Native.Nat.{ℕ, ◌<◌}
-use lib.ListN.{length}
-use borrow.Author.Rules.{rules}
+use Rattle.finder.proofs.Follows.{follows_missing, follows_unmarked, follows_standing, follows_on}
 use Rattle.finder.proofs.+follow_under.Goals as goal
 
 pub returns-then-not-s : goal.returns-then-not-s

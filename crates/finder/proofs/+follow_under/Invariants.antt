@@ -1,6 +1,4 @@
-use Rattle.std.proofs.Common.{length, ◌≡◌, ℕ, ◌+◌, ◌-◌, ◌*◌, ◌<◌, ◌≤◌}
-use Rattle.finder.specs.Looks.{Looks}
-use Rattle.finder.specs.Follows.{FollowsUnder, Follows}
+use Rattle.std.proofs.Common.{length}
 use Rattle.finder.proofs.+follow_under.Given as goal
 
 -- the words that are left of the way

@@ -1,6 +1,5 @@
 -- `finder::look` meets its contract. Assumes nothing.
 use mathlib.Core.Path.{refl}
-use borrow.Author.Tests.{not-true, not-false}
 use Rattle.finder.proofs.Looks.{looks_none, looks_found}
 use Rattle.finder.proofs.look.Goals as goal
 

@@ -1,11 +1,9 @@
 -- `forecast::weigh_way` meets its contract. The measure: the words that are left of the way. Assumes nothing.
 use native.Mathlib.Omega.{arith}
 use mathlib.Core.Path.{◌≡◌, ap, ◌∙◌}
-use lib.ListN.{length, length-drop}
+use lib.ListN.{length-drop}
 use Rattle.forecast.proofs.Weights.{marked_places}
 use Rattle.forecast.proofs.Steps.{short_weighed, deep_weighed, last_weighed, part_weighed}
-use Prim.Native.Nat.{ℕ, ◌<◌}
-use borrow.Author.Rules.{rules}
 use Rattle.forecast.proofs.+weigh_way.Goals as goal
 
 pub returns-then-way-lt3 : goal.returns-then-way-lt3

@@ -1,6 +1,4 @@
-use Rattle.std.proofs.Common.{length, ℕ, ◌<◌, ◌≤◌, List, ◌≡◌, ◌+◌, ◌-◌, ◌*◌}
-use Rattle.readers.specs.Hex.{words_in}
-use Rattle.forecast.specs.Weighs.{SightGone, PlaceWeighed, WayWeighed, Weighed}
+use Rattle.std.proofs.Common.{length}
 use Rattle.forecast.proofs.+weigh_way.Given as goal
 
 -- the words that are left of the way

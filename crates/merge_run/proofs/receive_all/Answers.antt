@@ -1,9 +1,7 @@
 -- `merge_run::receive_all` meets its contract. The invariant: the run so far, of which the next turn is a part. Assumes nothing.
 use native.Mathlib.Omega.{arith}
-use mathlib.Core.Path.{◌≡◌, refl, ◌∙◌}
-use lib.ListN.{length}
-use Rattle.tables.specs.Holding.{four}
-use Rattle.merge_run.proofs.Running.{Turning, turning_none, turning_on, turning_ends}
+use mathlib.Core.Path.{refl, ◌∙◌}
+use Rattle.merge_run.proofs.Running.{turning_none, turning_on, turning_ends}
 use Rattle.merge_run.proofs.receive_all.Goals as goal
 
 pub read_on-r-requires : goal.read_on-r-requires

@@ -1,6 +1,4 @@
-use Prim.Native.Nat.{◌-◌}
-use lib.ListN.{length}
-use Rattle.readers.proofs.Lines.{Sought, start, more, at-feed, at_end}
+use Rattle.readers.proofs.Lines.{start, more, at-feed, at_end}
 use Rattle.readers.proofs.line_end.Goals as goal
 
 pub returns-then-s-e-eq10 : goal.returns-then-s-e-eq10

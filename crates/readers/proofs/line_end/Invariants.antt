@@ -2,7 +2,7 @@
 -- Assumes nothing.
 use Prim.Native.Nat.{◌-◌}
 use lib.ListN.{length}
-use Rattle.readers.proofs.Lines.{Sought, start, more, at-feed, at_end}
+use Rattle.readers.proofs.Lines.{Sought}
 use Rattle.readers.proofs.line_end.Given as goal
 
 abbrev pub invariant-loop-e : goal.invariant-loop-e

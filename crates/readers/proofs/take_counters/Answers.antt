@@ -1,9 +1,8 @@
-use Prim.Native.Nat.{◌-◌}
 use native.Mathlib.Omega.{arith}
 use mathlib.Core.Path.{refl}
 use lib.ListN.{replicate}
 use Rattle.decimal.proofs.Runs.{number_took, number_none}
-use Rattle.readers.proofs.Commas.{State, none, start, step, refuse, done}
+use Rattle.readers.proofs.Commas.{none, start, step, refuse, done}
 use Rattle.readers.proofs.take_counters.Goals as goal
 
 pub returns-in_default : goal.returns-in_default

@@ -2,11 +2,7 @@
 -- would follow there.
 -- Assumes nothing.
 use Prim.Native.Nat.{◌-◌}
-use native.Mathlib.Omega.{arith}
-use mathlib.Core.Path.{refl}
-use lib.ListN.{replicate}
-use Rattle.decimal.proofs.Runs.{number_took, number_none}
-use Rattle.readers.proofs.Commas.{State, none, start, step, refuse, done}
+use Rattle.readers.proofs.Commas.{State}
 use Rattle.readers.proofs.take_counters.Given as goal
 
 abbrev pub invariant-loop-i : goal.invariant-loop-i

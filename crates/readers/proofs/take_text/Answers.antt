@@ -1,6 +1,4 @@
-use Prim.Native.Nat.{◌-◌}
-use lib.ListN.{length}
-use Rattle.readers.proofs.Texts.{Passed, start, step, done, ends, differs}
+use Rattle.readers.proofs.Texts.{start, step, done, ends, differs}
 use Rattle.readers.proofs.take_text.Goals as goal
 
 pub returns-then-s-n : goal.returns-then-s-n

@@ -2,7 +2,7 @@
 -- Assumes nothing.
 use Prim.Native.Nat.{◌-◌}
 use lib.ListN.{length}
-use Rattle.readers.proofs.Texts.{Passed, start, step, done, ends, differs}
+use Rattle.readers.proofs.Texts.{Passed}
 use Rattle.readers.proofs.take_text.Given as goal
 
 abbrev pub invariant-loop-i : goal.invariant-loop-i

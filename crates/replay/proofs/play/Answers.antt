@@ -1,9 +1,7 @@
 use native.Mathlib.Omega.{arith}
-use mathlib.Core.Path.{◌≡◌, refl, sym}
+use mathlib.Core.Path.{refl, sym}
 use mathlib.Core.Bool.{false≢true}
-use lib.ListN.{length}
 use lib.Seq.{length-take-le}
-use Rattle.stream.specs.Pieces.{CutInside}
 use Rattle.replay.proofs.play.Goals as goal
 
 pub loop-turns-init : goal.loop-turns-init

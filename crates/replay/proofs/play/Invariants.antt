@@ -1,9 +1,6 @@
 -- `replay::play` is safe and ends. The invariant: the buffer stays as long as it is, and the cut lies in it. Assumes nothing.
-use native.Mathlib.Omega.{arith}
-use mathlib.Core.Path.{◌≡◌, refl, sym}
-use mathlib.Core.Bool.{false≢true}
+use mathlib.Core.Path.{◌≡◌}
 use lib.ListN.{length}
-use lib.Seq.{length-take-le}
 use Rattle.stream.specs.Pieces.{CutInside}
 use Rattle.replay.proofs.play.Given as goal
 

@@ -1,6 +1,5 @@
 -- The seat of a new element.
 use native.Mathlib.Omega.{arith}
-use borrow.Author.Tests.{not-true, not-false}
 use Rattle.seats.proofs.Seating.{seat_head, seat_none, seat_after}
 use Rattle.seats.proofs.find_seat.Goals as goal
 

@@ -1,12 +1,7 @@
-use Prim.Native.Nat.{◌+◌, ◌≤◌}
 use native.Mathlib.Omega.{arith}
-use mathlib.Core.Path.{◌≡◌, refl}
-use lib.ListN.{length}
+use mathlib.Core.Path.{refl}
 use borrow.Author.Tests.{not-true, not-false}
-use Rattle.meaning.specs.Receive.{Terminal}
-use Rattle.tables.specs.Holding.{four}
-use Rattle.keeping.specs.Keeping.{Keeps}
-use Rattle.settling.proofs.Rounds.{Underway, underway, goes_on, comes_to_rest}
+use Rattle.settling.proofs.Rounds.{underway, goes_on, comes_to_rest}
 use Rattle.settling.proofs.settle.Goals as goal
 
 pub returns-then-s-gt-MOST : goal.returns-then-s-gt-MOST

@@ -1,13 +1,11 @@
 -- `settling::settle` meets its contract. The invariant: what is left to settle comes to the same. Assumes nothing.
 use Prim.Native.Nat.{◌+◌, ◌≤◌}
-use native.Mathlib.Omega.{arith}
-use mathlib.Core.Path.{◌≡◌, refl}
+use mathlib.Core.Path.{◌≡◌}
 use lib.ListN.{length}
-use borrow.Author.Tests.{not-true, not-false}
 use Rattle.meaning.specs.Receive.{Terminal}
 use Rattle.tables.specs.Holding.{four}
 use Rattle.keeping.specs.Keeping.{Keeps}
-use Rattle.settling.proofs.Rounds.{Underway, underway, goes_on, comes_to_rest}
+use Rattle.settling.proofs.Rounds.{Underway}
 use Rattle.settling.proofs.settle.Given as goal
 
 abbrev pub invariant-loop-state : goal.invariant-loop-state

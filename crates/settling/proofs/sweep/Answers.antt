@@ -1,13 +1,7 @@
-use Prim.Native.Nat.{◌≤◌, ◌-◌}
 use native.Mathlib.Omega.{arith}
-use mathlib.Core.Path.{◌≡◌, refl, sym, ◌∙◌}
-use borrow.Author.Tests.{not-true, not-false}
-use lib.ListN.{length}
-use Rattle.meaning.specs.Receive.{Terminal}
-use Rattle.tables.specs.Holding.{four}
-use Rattle.keeping.specs.Keeping.{Keeps}
+use mathlib.Core.Path.{refl, sym, ◌∙◌}
 use Rattle.settling.proofs.Looking.{looks_early}
-use Rattle.settling.proofs.Sweeping.{Sweeping, begins, ends, drops, one_less, passes, notes, passes_early}
+use Rattle.settling.proofs.Sweeping.{begins, ends, drops, one_less, passes, notes, passes_early}
 use Rattle.settling.proofs.sweep.Goals as goal
 
 pub loop-i-preserved-then-early : goal.loop-i-preserved-then-early

@@ -1,14 +1,11 @@
 -- `settling::sweep` meets its contract. The invariant: the operations that were passed are rid of the dead. Assumes nothing.
 use Prim.Native.Nat.{◌≤◌, ◌-◌}
-use native.Mathlib.Omega.{arith}
-use mathlib.Core.Path.{◌≡◌, refl, sym, ◌∙◌}
-use borrow.Author.Tests.{not-true, not-false}
+use mathlib.Core.Path.{◌≡◌}
 use lib.ListN.{length}
 use Rattle.meaning.specs.Receive.{Terminal}
 use Rattle.tables.specs.Holding.{four}
 use Rattle.keeping.specs.Keeping.{Keeps}
-use Rattle.settling.proofs.Looking.{looks_early}
-use Rattle.settling.proofs.Sweeping.{Sweeping, begins, ends, drops, one_less, passes, notes, passes_early}
+use Rattle.settling.proofs.Sweeping.{Sweeping}
 use Rattle.settling.proofs.sweep.Given as goal
 
 abbrev pub invariant-loop-i : goal.invariant-loop-i

@@ -1,7 +1,6 @@
 -- `sheet::save` meets its contract: the counts have room, the sheet fits, it is written.
 -- Assumes nothing.
 use mathlib.Core.Path.{sym, ◌∙◌}
-use borrow.Author.Tests.{not-true, not-false}
 use Rattle.tables.specs.Holding.{within_rows}
 use Rattle.sheet.proofs.Saved.{too_many, too_short, written}
 use Rattle.sheet.proofs.save.Goals as goal

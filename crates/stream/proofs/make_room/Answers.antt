@@ -1,5 +1,4 @@
-use Prim.Native.Nat.{◌-◌}
-use Rattle.stream.proofs.Moving.{Moving, moving_none, moving_more, moved}
+use Rattle.stream.proofs.Moving.{moving_none, moving_more, moved}
 use Rattle.stream.proofs.make_room.Goals as goal
 
 pub loop-i-preserved : goal.loop-i-preserved

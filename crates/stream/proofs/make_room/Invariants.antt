@@ -1,7 +1,7 @@
 -- `stream::make_room` meets its contract. The loop's invariant, `Moving`: the first i of the held bytes are moved.
 -- Assumes nothing.
 use Prim.Native.Nat.{◌-◌}
-use Rattle.stream.proofs.Moving.{Moving, moving_none, moving_more, moved}
+use Rattle.stream.proofs.Moving.{Moving}
 use Rattle.stream.proofs.make_room.Given as goal
 
 abbrev pub invariant-loop-i : goal.invariant-loop-i

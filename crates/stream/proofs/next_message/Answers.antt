@@ -1,7 +1,5 @@
-use Prim.Native.Nat.{◌-◌}
 use mathlib.Core.Path.{sym, ◌∙◌}
-use lib.ListN.{length}
-use Rattle.stream.proofs.Ending.{Searching, searching_none, found, other_byte, other_line, at_end}
+use Rattle.stream.proofs.Ending.{searching_none, found, other_byte, other_line, at_end}
 use Rattle.stream.proofs.next_message.Goals as goal
 
 pub returns-then-stands : goal.returns-then-stands

@@ -1,9 +1,8 @@
 -- `stream::next_message` meets its contract. The loop's invariant, `Searching`: no message ends from a to e.
 -- Assumes nothing.
 use Prim.Native.Nat.{◌-◌}
-use mathlib.Core.Path.{sym, ◌∙◌}
 use lib.ListN.{length}
-use Rattle.stream.proofs.Ending.{Searching, searching_none, found, other_byte, other_line, at_end}
+use Rattle.stream.proofs.Ending.{Searching}
 use Rattle.stream.proofs.next_message.Given as goal
 
 abbrev pub invariant-loop-e : goal.invariant-loop-e

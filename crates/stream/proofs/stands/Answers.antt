@@ -1,7 +1,5 @@
-use Prim.Native.Nat.{◌-◌}
 use native.Mathlib.Omega.{arith}
-use lib.ListN.{length}
-use Rattle.stream.proofs.Compare.{too_short, Standing, standing_none, standing_more, standing_not, standing_all}
+use Rattle.stream.proofs.Compare.{too_short, standing_none, standing_more, standing_not, standing_all}
 use Rattle.stream.proofs.stands.Goals as goal
 
 pub returns-then-s-a-2 : goal.returns-then-s-a-2

@@ -1,9 +1,8 @@
 -- `stream::stands` meets its contract. The loop's invariant, `Standing`: the first i bytes of the text stand there.
 -- Assumes nothing.
 use Prim.Native.Nat.{◌-◌}
-use native.Mathlib.Omega.{arith}
 use lib.ListN.{length}
-use Rattle.stream.proofs.Compare.{too_short, Standing, standing_none, standing_more, standing_not, standing_all}
+use Rattle.stream.proofs.Compare.{Standing}
 use Rattle.stream.proofs.stands.Given as goal
 
 abbrev pub invariant-loop-i : goal.invariant-loop-i

@@ -1,12 +1,10 @@
-use Prim.Native.Nat.{ℕ, ◌+◌, ◌*◌, ◌-◌, ◌<◌}
+use Prim.Native.Nat.{ℕ, ◌+◌, ◌*◌, ◌<◌}
 use native.Mathlib.Omega.{arith}
-use mathlib.Core.Path.{◌≡◌, refl, sym, ap, ◌∙◌}
+use mathlib.Core.Path.{refl, sym, ap, ◌∙◌}
 use mathlib.Core.List.{List}
 use lib.ListN.{length}
-use borrow.Author.Tests.{not-true, not-false}
 use Rattle.tables.specs.declared.Position.{Position}
-use Rattle.tables.specs.declared.Search.{Search}
-use Rattle.tables.specs.Seek.{Searches, sought}
+use Rattle.tables.specs.Seek.{Searches}
 use Rattle.tables.proofs.Seeks.{sought_end, sought_stop, sought_on, searches_on}
 use Rattle.tables.proofs.seek.Goals as goal
 

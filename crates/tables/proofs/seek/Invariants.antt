@@ -1,14 +1,10 @@
 -- `tables::seek` meets its contract: a search through the rows. Assumes nothing.
-use Prim.Native.Nat.{ℕ, ◌+◌, ◌*◌, ◌-◌, ◌<◌}
-use native.Mathlib.Omega.{arith}
-use mathlib.Core.Path.{◌≡◌, refl, sym, ap, ◌∙◌}
+use Prim.Native.Nat.{ℕ, ◌-◌}
+use mathlib.Core.Path.{◌≡◌}
 use mathlib.Core.List.{List}
-use lib.ListN.{length}
-use borrow.Author.Tests.{not-true, not-false}
 use Rattle.tables.specs.declared.Position.{Position}
 use Rattle.tables.specs.declared.Search.{Search}
 use Rattle.tables.specs.Seek.{Searches, sought}
-use Rattle.tables.proofs.Seeks.{sought_end, sought_stop, sought_on, searches_on}
 use Rattle.tables.proofs.seek.Given as goal
 
 -- the search from here ends where the search from the beginning ends

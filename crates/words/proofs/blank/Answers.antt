@@ -1,7 +1,5 @@
-use Prim.Native.Nat.{◌-◌, ◌≤◌}
 use native.Mathlib.Omega.{arith}
-use lib.ListN.{replicate}
-use Rattle.words.proofs.Moves.{Laying, laying_start, blank_step, blank_done}
+use Rattle.words.proofs.Moves.{laying_start, blank_step, blank_done}
 use Rattle.words.proofs.blank.Goals as goal
 
 pub loop-i-preserved : goal.loop-i-preserved

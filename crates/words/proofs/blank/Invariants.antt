@@ -1,8 +1,7 @@
 -- `words::blank` meets its contract: i words have been set to 0. Assumes nothing.
 use Prim.Native.Nat.{◌-◌, ◌≤◌}
-use native.Mathlib.Omega.{arith}
 use lib.ListN.{replicate}
-use Rattle.words.proofs.Moves.{Laying, laying_start, blank_step, blank_done}
+use Rattle.words.proofs.Moves.{Laying}
 use Rattle.words.proofs.blank.Given as goal
 
 abbrev pub invariant-loop-i : goal.invariant-loop-i

@@ -1,9 +1,8 @@
-use Prim.Native.Nat.{◌+◌, ◌*◌, ◌-◌, ◌≤◌}
-use mathlib.Core.Path.{◌≡◌, sym, ap, ◌∙◌}
+use mathlib.Core.Path.{sym, ap, ◌∙◌}
 use mathlib.Core.Bool.{not}
 use native.Mathlib.Omega.{arith}
 use Rattle.meaning.specs.Ids.{uncovered}
-use Rattle.words.proofs.Rows.{Counting, counting_start, counting_no, counting_yes, counting-done}
+use Rattle.words.proofs.Rows.{counting_start, counting_no, counting_yes, counting-done}
 use Rattle.words.proofs.covered_values.Goals as goal
 use Rattle.words.proofs.covered_values.Goals.{then-covers, else-covers}
 

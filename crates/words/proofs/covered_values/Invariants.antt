@@ -1,11 +1,8 @@
 -- `words::covered_values` meets its contract: i values have been tried. Assumes nothing.
 use Prim.Native.Nat.{◌+◌, ◌*◌, ◌-◌, ◌≤◌}
-use mathlib.Core.Path.{◌≡◌, sym, ap, ◌∙◌}
-use mathlib.Core.Bool.{not}
-use mathlib.Core.Logic.{⊎_elim}
-use native.Mathlib.Omega.{arith}
+use mathlib.Core.Path.{◌≡◌}
 use Rattle.meaning.specs.Ids.{uncovered}
-use Rattle.words.proofs.Rows.{Counting, counting_start, counting_no, counting_yes, counting-done}
+use Rattle.words.proofs.Rows.{Counting}
 use Rattle.words.proofs.covered_values.Given as goal
 
 abbrev pub invariant-loop-i : goal.invariant-loop-i

@@ -1,9 +1,9 @@
-use Prim.Native.Nat.{◌+◌, ◌-◌, ◌≤◌}
+use Prim.Native.Nat.{◌+◌}
 use mathlib.Core.Path.{sym, ap, ◌∙◌}
 use mathlib.Core.Bool.{not}
 use native.Mathlib.Omega.{arith}
 use Rattle.meaning.specs.Ids.{uncovered}
-use Rattle.words.proofs.Rows.{Keeping, keeping_start, keeping_mark, keeping_no, keeping_marks}
+use Rattle.words.proofs.Rows.{keeping_start, keeping_mark, keeping_no, keeping_marks}
 use Rattle.words.proofs.keep_marks.Goals as goal
 use Rattle.words.proofs.keep_marks.Goals.{then-not-covers, else-not-covers}
 

@@ -1,11 +1,7 @@
 -- `words::keep_marks` meets its contract: i marks have been tried. Assumes nothing.
-use Prim.Native.Nat.{◌+◌, ◌-◌, ◌≤◌}
-use mathlib.Core.Path.{sym, ap, ◌∙◌}
-use mathlib.Core.Bool.{not}
-use mathlib.Core.Logic.{⊎_elim}
-use native.Mathlib.Omega.{arith}
+use Prim.Native.Nat.{◌-◌, ◌≤◌}
 use Rattle.meaning.specs.Ids.{uncovered}
-use Rattle.words.proofs.Rows.{Keeping, keeping_start, keeping_mark, keeping_no, keeping_marks}
+use Rattle.words.proofs.Rows.{Keeping}
 use Rattle.words.proofs.keep_marks.Given as goal
 
 abbrev pub invariant-loop-i : goal.invariant-loop-i

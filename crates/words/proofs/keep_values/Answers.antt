@@ -1,9 +1,8 @@
-use Prim.Native.Nat.{◌+◌, ◌*◌, ◌-◌, ◌≤◌}
-use mathlib.Core.Path.{◌≡◌, sym, ap, ◌∙◌}
+use mathlib.Core.Path.{sym, ap, ◌∙◌}
 use mathlib.Core.Bool.{not}
 use native.Mathlib.Omega.{arith}
 use Rattle.meaning.specs.Ids.{uncovered}
-use Rattle.words.proofs.Rows.{Keeping, keeping_start, keeping_yes, keeping_no, keeping_done}
+use Rattle.words.proofs.Rows.{keeping_start, keeping_yes, keeping_no, keeping_done}
 use Rattle.words.proofs.keep_values.Goals as goal
 use Rattle.words.proofs.keep_values.Goals.{then-not-covers, else-not-covers}
 

@@ -1,11 +1,8 @@
 -- `words::keep_values` meets its contract: i values have been tried. Assumes nothing.
 use Prim.Native.Nat.{◌+◌, ◌*◌, ◌-◌, ◌≤◌}
-use mathlib.Core.Path.{◌≡◌, sym, ap, ◌∙◌}
-use mathlib.Core.Bool.{not}
-use mathlib.Core.Logic.{⊎_elim}
-use native.Mathlib.Omega.{arith}
+use mathlib.Core.Path.{◌≡◌}
 use Rattle.meaning.specs.Ids.{uncovered}
-use Rattle.words.proofs.Rows.{Keeping, keeping_start, keeping_yes, keeping_no, keeping_done}
+use Rattle.words.proofs.Rows.{Keeping}
 use Rattle.words.proofs.keep_values.Given as goal
 
 abbrev pub invariant-loop-i : goal.invariant-loop-i

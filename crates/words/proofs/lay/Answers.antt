@@ -1,8 +1,6 @@
-use Prim.Native.Nat.{◌-◌, ◌≤◌}
 use mathlib.Core.Path.{refl}
-use lib.ListN.{length}
 use native.Mathlib.Omega.{arith}
-use Rattle.words.proofs.Moves.{Laying, laying_start, laying_step, laying_done}
+use Rattle.words.proofs.Moves.{laying_start, laying_step, laying_done}
 use Rattle.words.proofs.lay.Goals as goal
 
 pub loop-i-preserved : goal.loop-i-preserved

@@ -1,9 +1,7 @@
 -- `words::lay` meets its contract: i words have been written. Assumes nothing.
 use Prim.Native.Nat.{◌-◌, ◌≤◌}
-use mathlib.Core.Path.{refl}
 use lib.ListN.{length}
-use native.Mathlib.Omega.{arith}
-use Rattle.words.proofs.Moves.{Laying, laying_start, laying_step, laying_done}
+use Rattle.words.proofs.Moves.{Laying}
 use Rattle.words.proofs.lay.Given as goal
 
 abbrev pub invariant-loop-i : goal.invariant-loop-i

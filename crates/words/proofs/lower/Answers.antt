@@ -1,7 +1,5 @@
-use Prim.Native.Nat.{◌-◌, ◌≤◌}
 use native.Mathlib.Omega.{arith}
-use Rattle.words.specs.Words.{run}
-use Rattle.words.proofs.Moves.{Laying, laying_start, lower_step, lower_done}
+use Rattle.words.proofs.Moves.{laying_start, lower_step, lower_done}
 use Rattle.words.proofs.lower.Goals as goal
 
 pub loop-i-preserved : goal.loop-i-preserved

@@ -1,8 +1,7 @@
 -- `words::lower` meets its contract: i words have been copied. Assumes nothing.
 use Prim.Native.Nat.{◌-◌, ◌≤◌}
-use native.Mathlib.Omega.{arith}
 use Rattle.words.specs.Words.{run}
-use Rattle.words.proofs.Moves.{Laying, laying_start, lower_step, lower_done}
+use Rattle.words.proofs.Moves.{Laying}
 use Rattle.words.proofs.lower.Given as goal
 
 abbrev pub invariant-loop-i : goal.invariant-loop-i

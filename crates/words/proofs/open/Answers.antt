@@ -1,7 +1,7 @@
-use Prim.Native.Nat.{◌-◌, ◌≤◌}
+use Prim.Native.Nat.{◌-◌}
 use mathlib.Core.Path.{◌≡◌}
 use native.Mathlib.Omega.{arith}
-use Rattle.words.proofs.Moves.{Opening, opening_start, opening_step}
+use Rattle.words.proofs.Moves.{opening_start, opening_step}
 use Rattle.words.proofs.open.Goals as goal
 
 pub loop-i-preserved : goal.loop-i-preserved

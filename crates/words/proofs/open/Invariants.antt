@@ -1,8 +1,6 @@
 -- `words::open` meets its contract: the words from i on have been moved up. Assumes nothing.
-use Prim.Native.Nat.{◌-◌, ◌≤◌}
-use mathlib.Core.Path.{◌≡◌}
-use native.Mathlib.Omega.{arith}
-use Rattle.words.proofs.Moves.{Opening, opening_start, opening_step}
+use Prim.Native.Nat.{◌≤◌}
+use Rattle.words.proofs.Moves.{Opening}
 use Rattle.words.proofs.open.Given as goal
 
 abbrev pub invariant-loop-i : goal.invariant-loop-i

@@ -1,6 +1,6 @@
-use Prim.Native.Nat.{◌+◌, ◌-◌}
+use Prim.Native.Nat.{◌+◌}
 use native.Mathlib.Omega.{arith}
-use Rattle.words.proofs.Rows.{Ranking, ranking_start, ranking_stops, ranking_goes, ranking_ends, ranked_marks}
+use Rattle.words.proofs.Rows.{ranking_start, ranking_stops, ranking_goes, ranking_ends, ranked_marks}
 use Rattle.words.proofs.rank.Goals as goal
 
 pub returns-then-t-from : goal.returns-then-t-from

@@ -1,7 +1,6 @@
 -- `words::rank` meets its contract: the first i marks are smaller. Assumes nothing.
-use Prim.Native.Nat.{◌+◌, ◌-◌}
-use native.Mathlib.Omega.{arith}
-use Rattle.words.proofs.Rows.{Ranking, ranking_start, ranking_stops, ranking_goes, ranking_ends, ranked_marks}
+use Prim.Native.Nat.{◌-◌}
+use Rattle.words.proofs.Rows.{Ranking}
 use Rattle.words.proofs.rank.Given as goal
 
 abbrev pub invariant-loop-i : goal.invariant-loop-i

@@ -1,8 +1,6 @@
-use Prim.Native.Nat.{◌+◌, ◌*◌, ◌-◌}
-use mathlib.Core.Path.{◌≡◌}
 use native.Mathlib.Nat.{zero-mul}
 use native.Mathlib.Omega.{arith}
-use Rattle.words.proofs.Rows.{row_in, Ranking, ranking_start, ranking_stops, ranking_goes, ranking_ends}
+use Rattle.words.proofs.Rows.{row_in, ranking_start, ranking_stops, ranking_goes, ranking_ends}
 use Rattle.words.proofs.rank_rows.Goals as goal
 
 pub offset_bounds-t-at : goal.offset_bounds-t-at

@@ -1,9 +1,7 @@
 -- `words::rank_rows` meets its contract: the first i rows have a smaller id. Assumes nothing.
 use Prim.Native.Nat.{◌+◌, ◌*◌, ◌-◌}
 use mathlib.Core.Path.{◌≡◌}
-use native.Mathlib.Nat.{zero-mul}
-use native.Mathlib.Omega.{arith}
-use Rattle.words.proofs.Rows.{row_in, Ranking, ranking_start, ranking_stops, ranking_goes, ranking_ends}
+use Rattle.words.proofs.Rows.{Ranking}
 use Rattle.words.proofs.rank_rows.Given as goal
 
 abbrev pub invariant-loop-i : goal.invariant-loop-i

@@ -1,6 +1,5 @@
-use Prim.Native.Nat.{◌-◌}
 use native.Mathlib.Omega.{arith}
-use Rattle.writers.proofs.Commas.{Adding, adding_first, adding_more, added}
+use Rattle.writers.proofs.Commas.{adding_first, adding_more, added}
 use borrow.Author.Rules.{rules}
 use Rattle.writers.proofs.counters_size.Goals as goal
 

@@ -1,8 +1,7 @@
 -- `writers::counters_size` meets its contract. The loop's invariant, `Adding`: the sizes of the counters before number i are added up.
 -- Assumes nothing.
 use Prim.Native.Nat.{◌-◌}
-use native.Mathlib.Omega.{arith}
-use Rattle.writers.proofs.Commas.{Adding, adding_first, adding_more, added}
+use Rattle.writers.proofs.Commas.{Adding}
 use Rattle.writers.proofs.counters_size.Given as goal
 
 abbrev pub invariant-loop-i : goal.invariant-loop-i

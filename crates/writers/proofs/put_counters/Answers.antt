@@ -1,9 +1,8 @@
-use Prim.Native.Nat.{◌-◌}
 use mathlib.Core.Path.{refl}
 use Rattle.meaning.specs.Ascii.{ascii}
 use Rattle.meaning.specs.Text.{decimal}
 use Rattle.writers.proofs.Over.{first-room, first, room, next, same_long}
-use Rattle.writers.proofs.Commas.{counters_text_lem, Counting, counting-first, comes, counting_more, counted}
+use Rattle.writers.proofs.Commas.{counters_text_lem, counting-first, comes, counting_more, counted}
 use borrow.Author.Rules.{rules}
 use Rattle.writers.proofs.put_counters.Goals as goal
 

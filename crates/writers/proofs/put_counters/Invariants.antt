@@ -1,11 +1,7 @@
 -- `writers::put_counters` meets its contract. The loop's invariant, `Counting`: the counters before number i are written.
 -- Assumes nothing.
 use Prim.Native.Nat.{◌-◌}
-use mathlib.Core.Path.{refl}
-use Rattle.meaning.specs.Ascii.{ascii}
-use Rattle.meaning.specs.Text.{decimal}
-use Rattle.writers.proofs.Over.{first-room, first, room, next, same_long}
-use Rattle.writers.proofs.Commas.{counters_text_lem, Counting, counting-first, comes, counting_more, counted}
+use Rattle.writers.proofs.Commas.{Counting}
 use Rattle.writers.proofs.put_counters.Given as goal
 
 abbrev pub invariant-loop-i : goal.invariant-loop-i

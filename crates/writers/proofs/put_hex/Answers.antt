@@ -1,7 +1,7 @@
-use Prim.Native.Nat.{◌-◌, ◌*◌}
+use Prim.Native.Nat.{◌*◌}
 use native.Mathlib.Omega.{arith}
 use lib.ListN.{length-set}
-use Rattle.writers.proofs.Hex.{Hexing, hexing_none, hexing_more, hexing_all, size_hex}
+use Rattle.writers.proofs.Hex.{hexing_none, hexing_more, hexing_all, size_hex}
 use Rattle.writers.proofs.put_hex.Goals as goal
 
 pub overflow_mul-buf : goal.overflow_mul-buf

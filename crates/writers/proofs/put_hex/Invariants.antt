@@ -1,9 +1,7 @@
 -- `writers::put_hex` meets its contract. The loop's invariant, `Hexing`: the first i bytes are written.
 -- Assumes nothing.
-use Prim.Native.Nat.{◌-◌, ◌*◌}
-use native.Mathlib.Omega.{arith}
-use lib.ListN.{length-set}
-use Rattle.writers.proofs.Hex.{Hexing, hexing_none, hexing_more, hexing_all, size_hex}
+use Prim.Native.Nat.{◌-◌}
+use Rattle.writers.proofs.Hex.{Hexing}
 use Rattle.writers.proofs.put_hex.Given as goal
 
 abbrev pub invariant-loop-i : goal.invariant-loop-i

@@ -1,6 +1,4 @@
-use Prim.Native.Nat.{◌-◌}
-use lib.ListN.{length}
-use Rattle.writers.proofs.Over.{Copying, copy_none, copy_more, copy_all}
+use Rattle.writers.proofs.Over.{copy_none, copy_more, copy_all}
 use Rattle.writers.proofs.put_text.Goals as goal
 
 pub loop-i-preserved : goal.loop-i-preserved

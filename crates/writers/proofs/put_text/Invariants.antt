@@ -2,7 +2,7 @@
 -- Assumes nothing.
 use Prim.Native.Nat.{◌-◌}
 use lib.ListN.{length}
-use Rattle.writers.proofs.Over.{Copying, copy_none, copy_more, copy_all}
+use Rattle.writers.proofs.Over.{Copying}
 use Rattle.writers.proofs.put_text.Given as goal
 
 abbrev pub invariant-loop-i : goal.invariant-loop-i

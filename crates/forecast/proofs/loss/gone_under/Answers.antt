@@ -1,7 +1,6 @@
-use Prim.Native.Nat.{◌-◌}
 use native.Mathlib.Omega.{arith}
 use Rattle.tables.specs.Heads.{marks_said, values-said}
-use Rattle.forecast.proofs.Goes.{Going, under_none, going_start, going_end, going_out, going_stop, going_on}
+use Rattle.forecast.proofs.Goes.{under_none, going_start, going_end, going_out, going_stop, going_on}
 use Rattle.forecast.proofs.loss.gone_under.Goals as goal
 
 pub loop-at-init : goal.loop-at-init

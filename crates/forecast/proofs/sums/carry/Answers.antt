@@ -1,5 +1,4 @@
 -- `forecast::sums::carry` meets its contract, by its cases. Assumes nothing.
-use borrow.Author.Tests.{not-true, not-false}
 use mathlib.Core.Path.{◌∙◌}
 use Rattle.forecast.specs.Weighs.{carried}
 use Rattle.forecast.proofs.sums.carry.Goals as goal

@@ -1,6 +1,6 @@
 use native.Mathlib.Omega.{arith}
 use mathlib.Core.Path.{sym, ◌∙◌}
-use Rattle.listings.proofs.Elements.{still_less, still_same, Counting, counting-first, counting_end}
+use Rattle.listings.proofs.Elements.{still_less, still_same, counting-first, counting_end}
 use Rattle.listings.proofs.Elements.{counting_stop, counting_here, counting_on}
 use Rattle.listings.proofs.list.nth_row.Goals as goal
 

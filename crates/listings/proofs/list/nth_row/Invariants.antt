@@ -1,9 +1,6 @@
 -- `listings::list::nth_row` meets its contract. The loop's invariant: the element that is looked for is the n-th from row i on.
 -- Assumes nothing.
-use native.Mathlib.Omega.{arith}
-use mathlib.Core.Path.{sym, ◌∙◌}
-use Rattle.listings.proofs.Elements.{still_less, still_same, Counting, counting-first, counting_end}
-use Rattle.listings.proofs.Elements.{counting_stop, counting_here, counting_on}
+use Rattle.listings.proofs.Elements.{Counting}
 use Rattle.listings.proofs.list.nth_row.Given as goal
 
 abbrev pub invariant-loop-left : goal.invariant-loop-left

@@ -1,6 +1,5 @@
 use native.Mathlib.Omega.{arith}
-use borrow.Author.Tests.{not-true, not-false}
-use Rattle.listings.proofs.Mapped.{Going, going_none, going_on, going_stop, going_all}
+use Rattle.listings.proofs.Mapped.{going_none, going_on, going_stop, going_all}
 use Rattle.listings.proofs.map.extent.Goals as goal
 
 pub loop-left-init : goal.loop-left-init

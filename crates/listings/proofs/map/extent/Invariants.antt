@@ -1,8 +1,6 @@
 -- `listings::map::extent` meets its contract. The loop's invariant: what is counted, and what is still to come.
 -- Assumes nothing.
-use native.Mathlib.Omega.{arith}
-use borrow.Author.Tests.{not-true, not-false}
-use Rattle.listings.proofs.Mapped.{Going, going_none, going_on, going_stop, going_all}
+use Rattle.listings.proofs.Mapped.{Going}
 use Rattle.listings.proofs.map.extent.Given as goal
 
 abbrev pub invariant-loop-left : goal.invariant-loop-left

@@ -1,6 +1,5 @@
 -- `listings::map::key_size` meets its contract.
 -- Assumes nothing.
-use borrow.Author.Tests.{not-true, not-false}
 use Rattle.writers.proofs.Runs.{sized_as}
 use Rattle.listings.proofs.Mapped.{key_here, no_size}
 use Rattle.listings.proofs.map.key_size.Goals as goal

@@ -1,6 +1,5 @@
 -- `listings::map::put_key` meets its contract.
 -- Assumes nothing.
-use borrow.Author.Tests.{not-true, not-false}
 use Rattle.writers.proofs.Over.{wrote_as}
 use Rattle.listings.proofs.Mapped.{key_here, no_key}
 use Rattle.listings.proofs.map.put_key.Goals as goal

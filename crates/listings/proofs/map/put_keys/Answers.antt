@@ -1,9 +1,9 @@
 use Prim.Native.Nat.{◌+◌}
 use native.Mathlib.Omega.{arith}
-use mathlib.Core.Path.{◌≡◌, refl}
-use Rattle.writers.proofs.Over.{Writing, last-room, same_long, wrote_as}
+use mathlib.Core.Path.{refl}
+use Rattle.writers.proofs.Over.{last-room, same_long, wrote_as}
 use Rattle.writers.proofs.Runs.{begun, write_room, write_fits, write_more, write_all}
-use Rattle.listings.specs.Texts.{key_text, keys_from}
+use Rattle.listings.specs.Texts.{key_text}
 use Rattle.listings.proofs.Mapped.{key_of_lem}
 use Rattle.listings.proofs.map.put_keys.Goals as goal
 

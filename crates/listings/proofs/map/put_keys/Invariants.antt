@@ -1,12 +1,9 @@
 -- `listings::map::put_keys` meets its contract. The loop's invariant: what is written, and what is still to come.
 -- Assumes nothing.
 use Prim.Native.Nat.{◌+◌}
-use native.Mathlib.Omega.{arith}
-use mathlib.Core.Path.{◌≡◌, refl}
-use Rattle.writers.proofs.Over.{Writing, last-room, same_long, wrote_as}
-use Rattle.writers.proofs.Runs.{begun, write_room, write_fits, write_more, write_all}
-use Rattle.listings.specs.Texts.{key_text, keys_from}
-use Rattle.listings.proofs.Mapped.{key_of_lem}
+use mathlib.Core.Path.{◌≡◌}
+use Rattle.writers.proofs.Over.{Writing}
+use Rattle.listings.specs.Texts.{keys_from}
 use Rattle.listings.proofs.map.put_keys.Given as goal
 
 abbrev pub invariant-loop-left : goal.invariant-loop-left

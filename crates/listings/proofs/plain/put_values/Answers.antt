@@ -1,9 +1,9 @@
 use Prim.Native.Nat.{◌+◌}
 use native.Mathlib.Omega.{arith}
-use mathlib.Core.Path.{◌≡◌, refl}
-use Rattle.writers.proofs.Over.{Writing, last-room, same_long}
+use mathlib.Core.Path.{refl}
+use Rattle.writers.proofs.Over.{last-room, same_long}
 use Rattle.writers.proofs.Runs.{begun, write_room, write_fits, write_more, write_all}
-use Rattle.listings.specs.Texts.{values_from, value_text}
+use Rattle.listings.specs.Texts.{value_text}
 use Rattle.listings.proofs.plain.put_values.Goals as goal
 
 pub put_value-at-requires : goal.put_value-at-requires

@@ -1,11 +1,9 @@
 -- `listings::plain::put_values` meets its contract. The loop's invariant: what is written, and what is still to come.
 -- Assumes nothing.
 use Prim.Native.Nat.{◌+◌}
-use native.Mathlib.Omega.{arith}
-use mathlib.Core.Path.{◌≡◌, refl}
-use Rattle.writers.proofs.Over.{Writing, last-room, same_long}
-use Rattle.writers.proofs.Runs.{begun, write_room, write_fits, write_more, write_all}
-use Rattle.listings.specs.Texts.{values_from, value_text}
+use mathlib.Core.Path.{◌≡◌}
+use Rattle.writers.proofs.Over.{Writing}
+use Rattle.listings.specs.Texts.{values_from}
 use Rattle.listings.proofs.plain.put_values.Given as goal
 
 abbrev pub invariant-loop-left : goal.invariant-loop-left

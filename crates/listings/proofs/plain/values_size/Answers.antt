@@ -1,8 +1,8 @@
-use Prim.Native.Nat.{◌+◌, ◌*◌}
+use Prim.Native.Nat.{◌+◌}
 use native.Mathlib.Omega.{arith}
-use mathlib.Core.Path.{◌≡◌, refl}
-use Rattle.writers.proofs.Runs.{Summing, sum_begun, sum_more, sum-all}
-use Rattle.listings.specs.Texts.{values_from, value_text}
+use mathlib.Core.Path.{refl}
+use Rattle.writers.proofs.Runs.{sum_begun, sum_more, sum-all}
+use Rattle.listings.specs.Texts.{value_text}
 use Rattle.listings.proofs.plain.values_size.Goals as goal
 
 pub loop-left-init : goal.loop-left-init

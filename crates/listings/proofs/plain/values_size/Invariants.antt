@@ -1,10 +1,9 @@
 -- `listings::plain::values_size` meets its contract. The loop's invariant: what is counted, and what is still to come.
 -- Assumes nothing.
 use Prim.Native.Nat.{◌+◌, ◌*◌}
-use native.Mathlib.Omega.{arith}
-use mathlib.Core.Path.{◌≡◌, refl}
-use Rattle.writers.proofs.Runs.{Summing, sum_begun, sum_more, sum-all}
-use Rattle.listings.specs.Texts.{values_from, value_text}
+use mathlib.Core.Path.{◌≡◌}
+use Rattle.writers.proofs.Runs.{Summing}
+use Rattle.listings.specs.Texts.{values_from}
 use Rattle.listings.proofs.plain.values_size.Given as goal
 
 abbrev pub invariant-loop-left : goal.invariant-loop-left

@@ -1,8 +1,7 @@
-use Prim.Native.Nat.{◌-◌}
 use native.Mathlib.Omega.{arith}
 use Rattle.message.specs.Means.{pad}
 use Rattle.message.proofs.Steps.{step_took, step_end, step_none}
-use Rattle.message.proofs.Trails.{State, key_took, no_top, start, end, bad, closed, ninth, more, none}
+use Rattle.message.proofs.Trails.{key_took, no_top, start, end, bad, closed, ninth, more, none}
 use Rattle.message.proofs.ways.take_way.Goals as goal
 
 pub returns-in_default : goal.returns-in_default

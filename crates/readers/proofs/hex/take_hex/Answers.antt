@@ -1,7 +1,6 @@
-use Prim.Native.Nat.{◌-◌, ◌≤◌}
 use native.Mathlib.Omega.{arith}
 use Rattle.readers.proofs.Hexes.{stops_at, stops_end, too_many}
-use Rattle.readers.proofs.Taking.{Parts, parts_start, word_took, word_none, no_word, last_word, parts_more, filled}
+use Rattle.readers.proofs.Taking.{parts_start, word_took, word_none, no_word, last_word, parts_more, filled}
 use Rattle.readers.proofs.hex.take_hex.Goals as goal
 
 pub returns-in_default : goal.returns-in_default

@@ -1,9 +1,7 @@
 -- `readers::hex::take_hex` meets its contract. The loop's invariant, `Parts`: i full words stand from a to n.
 -- Assumes nothing.
 use Prim.Native.Nat.{◌-◌, ◌≤◌}
-use native.Mathlib.Omega.{arith}
-use Rattle.readers.proofs.Hexes.{stops_at, stops_end, too_many}
-use Rattle.readers.proofs.Taking.{Parts, parts_start, word_took, word_none, no_word, last_word, parts_more, filled}
+use Rattle.readers.proofs.Taking.{Parts}
 use Rattle.readers.proofs.hex.take_hex.Given as goal
 
 abbrev pub invariant-loop-i : goal.invariant-loop-i

@@ -1,6 +1,5 @@
 -- `readers::hex::take_key` meets its contract.
 -- Assumes nothing.
-use borrow.Author.Tests.{not-true, not-false}
 use Rattle.readers.proofs.Taking.{key_read, key_none}
 use Rattle.readers.proofs.hex.take_key.Goals as goal
 

@@ -1,7 +1,6 @@
-use Prim.Native.Nat.{◌-◌}
 use native.Mathlib.Omega.{arith}
 use Rattle.readers.proofs.Hexes.{stops_at, stops_end, odd}
-use Rattle.readers.proofs.Taking.{Part, part_start, room, part_more, a_word}
+use Rattle.readers.proofs.Taking.{part_start, room, part_more, a_word}
 use Rattle.readers.proofs.hex.take_word.Goals as goal
 
 pub returns-then-h-ge16 : goal.returns-then-h-ge16

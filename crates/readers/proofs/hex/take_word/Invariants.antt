@@ -3,9 +3,7 @@
 -- next one weighs.
 -- Assumes nothing.
 use Prim.Native.Nat.{◌-◌}
-use native.Mathlib.Omega.{arith}
-use Rattle.readers.proofs.Hexes.{stops_at, stops_end, odd}
-use Rattle.readers.proofs.Taking.{Part, part_start, room, part_more, a_word}
+use Rattle.readers.proofs.Taking.{Part}
 use Rattle.readers.proofs.hex.take_word.Given as goal
 
 abbrev pub invariant-loop-len : goal.invariant-loop-len

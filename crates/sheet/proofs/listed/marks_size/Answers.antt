@@ -1,8 +1,8 @@
-use Prim.Native.Nat.{◌+◌, ◌*◌}
+use Prim.Native.Nat.{◌+◌}
 use native.Mathlib.Omega.{arith}
-use mathlib.Core.Path.{◌≡◌, refl, ap}
-use Rattle.writers.proofs.Runs.{sized_as, Summing, sum_begun, sum_more, sum-all}
-use Rattle.sheet.specs.Texts.{marks_text, mark_text}
+use mathlib.Core.Path.{refl, ap}
+use Rattle.writers.proofs.Runs.{sized_as, sum_begun, sum_more, sum-all}
+use Rattle.sheet.specs.Texts.{mark_text}
 use Rattle.meaning.specs.Sheet.{line_text, mark_line}
 use Rattle.sheet.proofs.listed.marks_size.Goals as goal
 

@@ -1,9 +1,9 @@
 use Prim.Native.Nat.{◌+◌}
 use native.Mathlib.Omega.{arith}
-use mathlib.Core.Path.{◌≡◌, refl, ap}
-use Rattle.writers.proofs.Over.{Writing, last-room, same_long, wrote_as}
+use mathlib.Core.Path.{refl, ap}
+use Rattle.writers.proofs.Over.{last-room, same_long, wrote_as}
 use Rattle.writers.proofs.Runs.{begun, write_room, write_fits, write_more, write_all}
-use Rattle.sheet.specs.Texts.{marks_text, mark_text}
+use Rattle.sheet.specs.Texts.{mark_text}
 use Rattle.meaning.specs.Sheet.{line_text, mark_line}
 use Rattle.sheet.proofs.listed.put_marks.Goals as goal
 

@@ -1,13 +1,10 @@
 -- `sheet::listed::put_rows` meets its contract. The loop's invariant: what is written, and what is still to come.
 -- Assumes nothing.
-use native.Mathlib.Omega.{arith}
 use Rattle.tables.specs.Holding.{four}
 use Rattle.tables.specs.Standing.{first}
-use Rattle.tables.specs.Seek.{further}
-use Rattle.sheet.proofs.Rows.{Going, going_first, near, few, going_on}
-use Rattle.sheet.specs.Texts.{head_at, row_text, rows_text}
-use Rattle.writers.proofs.Over.{Writing, last-room, same_long}
-use Rattle.writers.proofs.Runs.{begun, write_room, write_fits, write_more, write_all}
+use Rattle.sheet.proofs.Rows.{Going}
+use Rattle.sheet.specs.Texts.{rows_text}
+use Rattle.writers.proofs.Over.{Writing}
 use Rattle.sheet.proofs.listed.put_rows.Given as goal
 
 abbrev pub invariant-loop-left : goal.invariant-loop-left

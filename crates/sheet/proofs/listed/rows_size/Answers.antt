@@ -1,11 +1,10 @@
-use Prim.Native.Nat.{◌*◌}
 use native.Mathlib.Omega.{arith}
 use Rattle.tables.specs.Holding.{four}
 use Rattle.tables.specs.Standing.{first}
 use Rattle.tables.specs.Seek.{further}
-use Rattle.sheet.proofs.Rows.{Going, going_first, near, few, going_on}
-use Rattle.sheet.specs.Texts.{head_at, row_text, rows_text}
-use Rattle.writers.proofs.Runs.{Summing, sum_begun, sum_more, sum-all}
+use Rattle.sheet.proofs.Rows.{going_first, near, few, going_on}
+use Rattle.sheet.specs.Texts.{head_at, row_text}
+use Rattle.writers.proofs.Runs.{sum_begun, sum_more, sum-all}
 use Rattle.sheet.proofs.listed.rows_size.Goals as goal
 
 pub loop-left-init : goal.loop-left-init

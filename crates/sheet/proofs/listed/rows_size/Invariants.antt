@@ -1,13 +1,11 @@
 -- `sheet::listed::rows_size` meets its contract. The loop's invariant: what is counted, and what is still to come.
 -- Assumes nothing.
 use Prim.Native.Nat.{◌*◌}
-use native.Mathlib.Omega.{arith}
 use Rattle.tables.specs.Holding.{four}
 use Rattle.tables.specs.Standing.{first}
-use Rattle.tables.specs.Seek.{further}
-use Rattle.sheet.proofs.Rows.{Going, going_first, near, few, going_on}
-use Rattle.sheet.specs.Texts.{head_at, row_text, rows_text}
-use Rattle.writers.proofs.Runs.{Summing, sum_begun, sum_more, sum-all}
+use Rattle.sheet.proofs.Rows.{Going}
+use Rattle.sheet.specs.Texts.{rows_text}
+use Rattle.writers.proofs.Runs.{Summing}
 use Rattle.sheet.proofs.listed.rows_size.Given as goal
 
 abbrev pub invariant-loop-left : goal.invariant-loop-left

@@ -1,7 +1,4 @@
-use Prim.Native.Nat.{◌-◌, ◌≤◌}
-use lib.ListN.{length}
-use Rattle.words.specs.Words.{run}
-use Rattle.words.proofs.Moves.{Laying, laying_start}
+use Rattle.words.proofs.Moves.{laying_start}
 use Rattle.waiting.proofs.Copies.{copy_step, copy_done}
 use borrow.Author.Rules.{rules}
 use Rattle.waiting.proofs.row.copy.Goals as goal

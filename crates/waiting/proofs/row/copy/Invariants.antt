@@ -2,8 +2,7 @@
 use Prim.Native.Nat.{◌-◌, ◌≤◌}
 use lib.ListN.{length}
 use Rattle.words.specs.Words.{run}
-use Rattle.words.proofs.Moves.{Laying, laying_start}
-use Rattle.waiting.proofs.Copies.{copy_step, copy_done}
+use Rattle.words.proofs.Moves.{Laying}
 use Rattle.waiting.proofs.row.copy.Given as goal
 
 abbrev pub invariant-loop-i : goal.invariant-loop-i

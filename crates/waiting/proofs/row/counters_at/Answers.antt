@@ -1,9 +1,5 @@
-use Prim.Native.Nat.{◌-◌, ◌≤◌}
-use mathlib.Core.Path.{◌≡◌, refl}
-use lib.ListN.{length}
-use Rattle.words.specs.Words.{run}
-use Rattle.words.proofs.Moves.{Laying, laying_start}
-use Rattle.waiting.specs.Rows.{counters}
+use mathlib.Core.Path.{refl}
+use Rattle.words.proofs.Moves.{laying_start}
 use Rattle.waiting.proofs.Copies.{counters-step, counters-done}
 use borrow.Author.Rules.{rules}
 use Rattle.waiting.proofs.row.counters_at.Goals as goal

@@ -1,11 +1,10 @@
 -- `waiting::row::counters_at` meets its contract: i counters have been read. Assumes nothing.
 use Prim.Native.Nat.{◌-◌, ◌≤◌}
-use mathlib.Core.Path.{◌≡◌, refl}
+use mathlib.Core.Path.{◌≡◌}
 use lib.ListN.{length}
 use Rattle.words.specs.Words.{run}
-use Rattle.words.proofs.Moves.{Laying, laying_start}
+use Rattle.words.proofs.Moves.{Laying}
 use Rattle.waiting.specs.Rows.{counters}
-use Rattle.waiting.proofs.Copies.{counters-step, counters-done}
 use Rattle.waiting.proofs.row.counters_at.Given as goal
 
 abbrev pub invariant-loop-i : goal.invariant-loop-i

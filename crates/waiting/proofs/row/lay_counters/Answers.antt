@@ -1,6 +1,5 @@
-use Prim.Native.Nat.{◌-◌, ◌≤◌}
 use mathlib.Core.Path.{refl}
-use Rattle.words.proofs.Moves.{Laying, laying_start, laying_step, laying_done}
+use Rattle.words.proofs.Moves.{laying_start, laying_step, laying_done}
 use borrow.Author.Rules.{rules}
 use Rattle.waiting.proofs.row.lay_counters.Goals as goal
 

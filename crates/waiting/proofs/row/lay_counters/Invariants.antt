@@ -1,7 +1,6 @@
 -- `waiting::row::lay_counters` meets its contract: i counters have been written. Assumes nothing.
 use Prim.Native.Nat.{◌-◌, ◌≤◌}
-use mathlib.Core.Path.{refl}
-use Rattle.words.proofs.Moves.{Laying, laying_start, laying_step, laying_done}
+use Rattle.words.proofs.Moves.{Laying}
 use Rattle.waiting.proofs.row.lay_counters.Given as goal
 
 abbrev pub invariant-loop-i : goal.invariant-loop-i

@@ -1,6 +1,3 @@
-use Prim.Native.Nat.{◌-◌}
-use mathlib.Core.Path.{◌≡◌}
-use lib.ListN.{length}
 use native.Mathlib.Omega.{arith}
 use Rattle.works.proofs.calls.make_all.Goals as goal
 

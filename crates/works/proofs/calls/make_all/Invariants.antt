@@ -3,7 +3,6 @@
 use Prim.Native.Nat.{◌-◌}
 use mathlib.Core.Path.{◌≡◌}
 use lib.ListN.{length}
-use native.Mathlib.Omega.{arith}
 use Rattle.works.proofs.calls.make_all.Given as goal
 
 abbrev pub invariant-loop-i : goal.invariant-loop-i
