@@ -1,7 +1,7 @@
 -- `lines::key_row_size` meets its contract.
 -- Assumes nothing.
 use native.Mathlib.Omega.{arith}
-use mathlib.Core.List.{◌∷◌}
+use mathlib.Core.List.{[], ◌∷◌}
 use lib.ListN.{length-append}
 use Rattle.writers.proofs.Texts.{sized}
 use Rattle.lines.proofs.Texts.{key_text_lem}

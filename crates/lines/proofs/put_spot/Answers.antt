@@ -1,7 +1,7 @@
 -- `lines::put_spot` meets its contract.
 -- Assumes nothing.
 use native.Mathlib.Omega.{arith}
-use mathlib.Core.List.{◌∷◌}
+use mathlib.Core.List.{[], ◌∷◌}
 use Rattle.meaning.specs.Ascii.{byte}
 use Rattle.writers.proofs.Over.{first-room, first, last-room, last}
 use Rattle.lines.proofs.Spots.{key_spot, element_spot, key_short}

@@ -2,6 +2,7 @@
 -- Assumes nothing.
 use native.Mathlib.Omega.{arith}
 use mathlib.Core.Path.{ap}
+use mathlib.Core.List.{[]}
 use Rattle.meaning.specs.Read.{not_there, listed}
 use Rattle.tables.specs.Heads.{values-said}
 use Rattle.listings.specs.Texts.{values_from}

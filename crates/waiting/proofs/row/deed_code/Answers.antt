@@ -1,4 +1,5 @@
 -- `waiting::row::deed_code` meets its contract. Assumes nothing.
+use Prim.Native.Nat.{◌+◌}
 use mathlib.Core.Path.{sym, ap, ◌∙◌}
 use Rattle.waiting.specs.Rows.{deed_code}
 use Rattle.waiting.proofs.row.deed_code.Goals as goal
