@@ -1,6 +1,6 @@
 -- What feeding promises: the pieces that are handed over are received one after another, and what is still held comes to the rest of the
 -- stream, whatever bytes follow. Which pieces these are, and which bytes are still held, is settled by the bytes alone (`Cuts` of
--- `stream`); so any two outcomes are equal (`take-in-once`, proofs/Once).
+-- `stream`); so any two outcomes are equal (`take_in_once`, proofs/Once).
 -- Assumes nothing: these are definitions.
 use Rattle.std.specs.Prelude.{ℕ, ◌-◌, ◌≤◌, ◌<◌, ◌≡◌, Bool, true, false, List, [], ◌∷◌, ◌++◌}
 use Rattle.meaning.specs.Receive.{Terminal}

@@ -12,7 +12,7 @@ use lib.ListN.{length, get_or, length-append}
 use Rattle.meaning.specs.Places.{Place, children_of}
 use Rattle.meaning.specs.Read.{keys_text}
 use Rattle.meaning.specs.Sheet.{Spot, in_map, in_list, Row, rows}
-use Rattle.rows.specs.Blocks.{passed, rest, in_aMap, over}
+use Rattle.rows.specs.Blocks.{passed, rest, in_a_map, over}
 use Rattle.rows.specs.Balanced.{passed-rest}
 use Rattle.rows.specs.Listing.{is_read, read_under, key_picked, keys_under}
 use Rattle.readers.specs.declared.Key.{Key}
@@ -163,14 +163,14 @@ module _ (h k m v : List ℕ) (c : Counts) (d : ℕ) where
       ap₂ (λ t u. t ++ u) (row_read A r (B ++ R) H)
       (ap (λ i. keys_from h k d i (length B)) (sym (behind-one A r)) ∙ rows_read (A ++ (r ∷ [])) B R (one_on h k m v c A r (B ++ R) H))
 
-  map_is : (A R : List Row) → Held (A ++ R) → map_rows h d (length A) (length R) ≡ length (passed (over (suc d) in_aMap) R)
+  map_is : (A R : List Row) → Held (A ++ R) → map_rows h d (length A) (length R) ≡ length (passed (over (suc d) in_a_map) R)
   unfolding map_rows passed
   map_is A [] H = refl
   map_is A (r ∷ R) H =
       let e = ap (λ w. of_map d (head_in w)) (head_at_lem h k m v c A R r H) ∙ map_row_lem r (narrow_at (four h k m v) c A r R H) d in
       let i = ap (λ i. map_rows h d i (length R)) (sym (behind-one A r)) ∙ map_is (A ++ (r ∷ [])) R (one_on h k m v c A r R H) in
       ap (λ b. cond b (suc (map_rows h d (length A + 1) (length R))) zero) e
-      ∙ go (over (suc d) in_aMap r) (passed (over (suc d) in_aMap) R) i
+      ∙ go (over (suc d) in_a_map r) (passed (over (suc d) in_a_map) R) i
     where
       go : (b : Bool) {x : ℕ} (l : List Row) → x ≡ length l → cond b (suc x) zero ≡ length (cond b (r ∷ l) [])
       go true l e = ap suc e
@@ -182,11 +182,11 @@ module _ (h k : List ℕ) (count from d : ℕ) (p : Place) (u : Under h k count 
   under = rows (suc d) p ++ u.later
 
   abbrev mapped : List Row
-  mapped = passed (over (suc d) in_aMap) under
+  mapped = passed (over (suc d) in_a_map) under
 
-  split : Holds (four h k u.marks u.values) u.counts (u.ahead ++ (mapped ++ rest (over (suc d) in_aMap) under))
+  split : Holds (four h k u.marks u.values) u.counts (u.ahead ++ (mapped ++ rest (over (suc d) in_a_map) under))
   split =
-      subst (λ rs. Holds (four h k u.marks u.values) u.counts (u.ahead ++ rs)) (sym (passed-rest (over (suc d) in_aMap) under))
+      subst (λ rs. Holds (four h k u.marks u.values) u.counts (u.ahead ++ rs)) (sym (passed-rest (over (suc d) in_a_map) under))
       u.holds
 
   pub keys_are : (n : ℕ) → n ≡ map_rows h d from (count - from) → keys_text (children_of p) ≡ keys_from h k d from n
@@ -195,5 +195,5 @@ module _ (h k : List ℕ) (count from d : ℕ) (p : Place) (u : Under h k count 
       let s : n ≡ length mapped = e ∙ (ap₂ (map_rows h d) u.here l
       ∙ map_is h k u.marks u.values u.counts d u.ahead under u.holds) in
       sym (keys_under d p u.later u.ends)
-      ∙ (sym (rows_read h k u.marks u.values u.counts d u.ahead mapped (rest (over (suc d) in_aMap) under) split)
+      ∙ (sym (rows_read h k u.marks u.values u.counts d u.ahead mapped (rest (over (suc d) in_a_map) under) split)
       ∙ ap₂ (keys_from h k d) (sym u.here) (sym s))

@@ -8,7 +8,7 @@ use borrow.Author.Tests.{lt-ltb, le-ltb, eq-eqb, ne_eqb}
 use lib.Dec.{ltb, eqb}
 use lib.ListN.{length}
 use Rattle.meaning.specs.Sheet.{Spot, in_map, in_list, Row}
-use Rattle.rows.specs.Blocks.{over, in_aMap}
+use Rattle.rows.specs.Blocks.{over, in_a_map}
 use Rattle.rows.specs.Listing.{is_read}
 use Rattle.tables.specs.Words.{side, head_word}
 use Rattle.tables.specs.Heads.{head_in}
@@ -68,10 +68,10 @@ module _ (r : Row) (n : Narrow r) (d : ℕ) where
   unfolding is_listed
   listed_row s = rw (depth_in_lem r n, side_in_lem r n, marks_in_lem r n)
 
-  pub map_row_lem : of_map d (head_in (head_word r)) ≡ over (suc d) in_aMap r
+  pub map_row_lem : of_map d (head_in (head_word r)) ≡ over (suc d) in_a_map r
   unfolding of_map
   map_row_lem = rw (depth_in_lem r n, side_in_lem r n, key_side r.spot)
     where
-      key_side : (p : Spot) → eqb (side p) 0 ≡ in_aMap p
+      key_side : (p : Spot) → eqb (side p) 0 ≡ in_a_map p
       key_side (in_map k) = refl
       key_side (in_list i) = refl

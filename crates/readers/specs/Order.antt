@@ -1,4 +1,4 @@
--- The words of keys stand in the order of the keys: `words-order`. And they say the key: `words-once`.
+-- The words of keys stand in the order of the keys: `words_order`. And they say the key: `words_once`.
 -- Assumes nothing.
 use Rattle.std.specs.Prelude.{ℕ, zero, suc, ◌+◌, ◌*◌, ◌-◌, ◌≤◌, ◌<◌, ◌≡◌, refl, List, [], ◌∷◌, length, drop}
 use Rattle.std.proofs.Common.{arith, mul-le-mul_right, suc-mul, sym, ap, ◌∙◌, length-drop, drop_of_length-le, lt-ltb, le-ltb}

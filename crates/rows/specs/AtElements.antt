@@ -12,7 +12,7 @@ use Rattle.meaning.specs.Apply.{at_element, step_on, step_from, insert_after}
 use Rattle.meaning.specs.Sheet.{Spot, in_list, Row, row_of, rows, rows_children, rows_elements}
 use Rattle.theorems.specs.Decide.{Tri, less, same, more, tri, Same, is, isnt, alike}
 use Rattle.rows.specs.Blocks.{passed, rest, Block, join}
-use Rattle.rows.specs.Blocks.{is_id, is_greater, in_aMap, over}
+use Rattle.rows.specs.Blocks.{is_id, is_greater, in_a_map, over}
 use Rattle.rows.specs.Blocks.{seek_rows, at_element_rows, step_on_rows, behind_rows, insert_rows}
 use Rattle.rows.specs.Spans.{split_none, at_row, block_pass, block_stop, under_split, shallow_elements}
 use Rattle.rows.specs.Spans.{map_pass}
@@ -116,8 +116,8 @@ module _ (n i : ℕ) (c : Place) where
   unfolding insert_rows insert_after
   insert_rows_lem head ks es =
       unfold step_on_rows in
-      (seek-map n (λ p. in_aMap p || is_greater i p) (λ p. false) (λ b. b) _ (λ k. refl) ks (rows_elements n es))
-      ∙ ap (rows_children n ks ++◌) (step_rows (λ p. in_aMap p || is_greater i p) (λ j. refl) es)
+      (seek-map n (λ p. in_a_map p || is_greater i p) (λ p. false) (λ b. b) _ (λ k. refl) ks (rows_elements n es))
+      ∙ ap (rows_children n ks ++◌) (step_rows (λ p. in_a_map p || is_greater i p) (λ j. refl) es)
   insert_rows_lem (after e) ks es =
       let s = map_pass n (λ p. not (is_id e p)) (λ k. refl) ks (rows_elements n es) _ _ (record { front = refl; back = refl }) in
       rw (s.front, s.back) (append_assoc (rows_children n ks) _ _ ∙ ap (rows_children n ks ++◌) (behind_rows_lem e es))

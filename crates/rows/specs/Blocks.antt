@@ -87,9 +87,9 @@ abbrev pub is_greater : ℕ → Spot → Bool
 is_greater e (in_map j) = false
 is_greater e (in_list i) = ltb e i
 
-abbrev pub in_aMap : Spot → Bool
-in_aMap (in_map j) = true
-in_aMap (in_list i) = false
+abbrev pub in_a_map : Spot → Bool
+in_a_map (in_map j) = true
+in_a_map (in_list i) = false
 
 -- rows deeper than n, and of depth n those whose spot passes the test
 abbrev pub over : ℕ → (Spot → Bool) → Row → Bool
@@ -137,7 +137,7 @@ behind_rows n e i new (r ∷ rs) =
 
 -- from the head, the map's rows are passed over too
 unfoldable pub insert_rows : ℕ → Prev → ℕ → List Row → List Row → List Row
-insert_rows n head i new rs = step_on_rows n (λ p. in_aMap p || is_greater i p) new rs
+insert_rows n head i new rs = step_on_rows n (λ p. in_a_map p || is_greater i p) new rs
 insert_rows n (after e) i new rs =
     passed (over n (λ p. not (is_id e p))) rs ++ behind_rows n e i new (rest (over n (λ p. not (is_id e p))) rs)
 

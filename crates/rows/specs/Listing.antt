@@ -1,6 +1,6 @@
 -- Document 01, "Reads", on rows: what is read of the rows under a place of depth d. Of the rows right under it those that have a mark are
--- read; `pick` takes from a row's spot what is read of it in one branch, and nothing in the other. Carried to the tree: `keys-under`,
--- `elements-under`.
+-- read; `pick` takes from a row's spot what is read of it in one branch, and nothing in the other. Carried to the tree: `keys_under`,
+-- `elements_under`.
 -- Assumes nothing.
 use Prim.Native.Nat.{ℕ, suc}
 use Rattle.std.proofs.Common.{arith, ◌∙◌}
@@ -15,7 +15,7 @@ use Rattle.meaning.specs.Places.{Place, place, Children, childless, child, Eleme
 use Rattle.meaning.specs.Read.{is_marked, keys_text, present_ids}
 use Rattle.meaning.specs.Sheet.{Spot, in_map, in_list, Row, row_of, rows, rows_children, rows_elements}
 use Rattle.theorems.specs.Fit.{Deep, deep_rows}
-use Rattle.rows.specs.Blocks.{passed, deeper, in_aMap, over}
+use Rattle.rows.specs.Blocks.{passed, deeper, in_a_map, over}
 use Rattle.rows.specs.Spans.{Splits, split_none, split_stop, block_stop, map_pass, Shallow, under_split}
 
 -- a row right under a place of depth d, with a mark
@@ -99,20 +99,20 @@ module _ (d : ℕ) where
 
   -- behind the map stands an element, a row that isn't under the place, or none
   map-ends : (es : Elements) (B : List Row) → Shallow d B
-      → Splits (over (suc d) in_aMap) (rows_elements (suc d) es ++ B) [] (rows_elements (suc d) es ++ B)
+      → Splits (over (suc d) in_a_map) (rows_elements (suc d) es ++ B) [] (rows_elements (suc d) es ++ B)
   unfolding rows_elements
-  map-ends empty [] h = split_none (over (suc d) in_aMap)
+  map-ends empty [] h = split_none (over (suc d) in_a_map)
   map-ends empty (r ∷ B) h =
       let e : r.depth ≡ suc d → ⊥ = λ e. omega (arith, h) in
-      split_stop (over (suc d) in_aMap) r B (rw (le-ltb (suc d) r.depth (omega (arith, h)), ne_eqb r.depth (suc d) e))
-  map-ends (element i c es) B h = block_stop (suc d) in_aMap (in_list i) c _ refl
+      split_stop (over (suc d) in_a_map) r B (rw (le-ltb (suc d) r.depth (omega (arith, h)), ne_eqb r.depth (suc d) e))
+  map-ends (element i c es) B h = block_stop (suc d) in_a_map (in_list i) c _ refl
 
   keys-passed : (c : Place) (B : List Row) → Shallow d B
-      → passed (over (suc d) in_aMap) (rows (suc d) c ++ B) ≡ rows_children (suc d) (children_of c)
+      → passed (over (suc d) in_a_map) (rows (suc d) c ++ B) ≡ rows_children (suc d) (children_of c)
   unfolding rows
   keys-passed (place m l ms vs ks es) B h =
-      ap (passed (over (suc d) in_aMap)) (append_assoc (rows_children (suc d) ks) (rows_elements (suc d) es) B)
-      ∙ ((map_pass (suc d) in_aMap (λ k. refl) ks (rows_elements (suc d) es ++ B) [] (rows_elements (suc d) es ++ B) (map-ends es B h)).front
+      ap (passed (over (suc d) in_a_map)) (append_assoc (rows_children (suc d) ks) (rows_elements (suc d) es) B)
+      ∙ ((map_pass (suc d) in_a_map (λ k. refl) ks (rows_elements (suc d) es ++ B) [] (rows_elements (suc d) es ++ B) (map-ends es B h)).front
       ∙ append-nil (rows_children (suc d) ks))
 
   place_ids : (c : Place) → read_under id_picked d (rows (suc d) c) ≡ present_ids (elements_of c)
@@ -123,7 +123,7 @@ module _ (d : ℕ) where
 
 -- Of the rows under a place of depth d, and of those behind them: the rows of its map are the first, up to one that is none of them.
 pub keys_under : (d : ℕ) (c : Place) (B : List Row) → Shallow d B
-    → read_under key_picked d (passed (over (suc d) in_aMap) (rows (suc d) c ++ B)) ≡ keys_text (children_of c)
+    → read_under key_picked d (passed (over (suc d) in_a_map) (rows (suc d) c ++ B)) ≡ keys_text (children_of c)
 keys_under d c B h = ap (read_under key_picked d) (keys-passed d c B h) ∙ children_keys d (children_of c)
 
 pub elements_under : (d : ℕ) (c : Place) (B : List Row) → Shallow d B

@@ -1,5 +1,5 @@
 -- An operation seen from a row on: what it does, adds and takes away among the rows that stand behind a place, the children of depth n
--- first. Rows that are shallower end what hangs under the place, and make no difference: `rows-within`, `change-within`, `found_within`.
+-- first. Rows that are shallower end what hangs under the place, and make no difference: `rows_within`, `change-within`, `found_within`.
 -- So code goes down a way without looking for the end of each block.
 -- Assumes nothing.
 use Rattle.std.specs.Prelude.{ℕ, suc, ◌≡◌, Bool, ◌&&◌}

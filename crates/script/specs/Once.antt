@@ -1,4 +1,4 @@
--- The promises of `script` settle its answers: two answers that meet one are equal, `number-once` and `block-once`. (What `part` promises
+-- The promises of `script` settle its answers: two answers that meet one are equal, `number_once` and `block_once`. (What `part` promises
 -- is an equation.)
 -- Assumes nothing.
 use Rattle.std.specs.Prelude.{ℕ, ◌+◌, ◌-◌, ◌≤◌, ◌<◌, ◌≡◌, refl, List, ◌++◌, length, take, drop}

@@ -8,7 +8,7 @@ use mathlib.Core.List.{List, [], ◌∷◌, ◌++◌, append_assoc}
 use lib.ListN.{get_or}
 use Rattle.meaning.specs.Ways.{head, after}
 use Rattle.meaning.specs.Sheet.{Spot, Row}
-use Rattle.rows.specs.Blocks.{passed, rest, is_id, is_greater, in_aMap, over, at, insert_rows}
+use Rattle.rows.specs.Blocks.{passed, rest, is_id, is_greater, in_a_map, over, at, insert_rows}
 use Rattle.rows.specs.Balanced.{passed-rest, passed-rest-behind}
 use Rattle.message.specs.Means.{prev_words}
 use Rattle.tables.specs.Finds.{want_element, want_seat, want_head, element_agrees, seat_agrees, head_agrees, element_tells}
@@ -42,7 +42,7 @@ module _ (n i hi len rows : ℕ) (from : Position) (h k : List ℕ) where
   unfolding insert_rows
   seat_head t l F m v c A B (after e) H r b w = absurd (head_third e hi (ap (λ len. hi ∷ 0 ∷ len ∷ []) (sym l) ∙ w))
   seat_head t l F m v c A B head H r b w =
-      let pass : Spot → Bool = λ p. in_aMap p || is_greater i p in
+      let pass : Spot → Bool = λ p. in_a_map p || is_greater i p in
       record {
         before = passed (over n pass) B;
         beyond = rest (over n pass) B;

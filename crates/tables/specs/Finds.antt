@@ -9,7 +9,7 @@ use Rattle.std.proofs.Math.Dec.{eqb}
 use Rattle.meaning.specs.Places.{Turn, before, equal, beyond, order}
 use Rattle.meaning.specs.Valid.{ValidKey}
 use Rattle.meaning.specs.Sheet.{Spot, in_map, in_list, Row}
-use Rattle.rows.specs.Blocks.{passed, over, at, key_below, is_key, is_id, is_greater, in_aMap}
+use Rattle.rows.specs.Blocks.{passed, over, at, key_below, is_key, is_id, is_greater, in_a_map}
 use Rattle.readers.specs.Words.{pack}
 use Rattle.readers.specs.Order.{words_order}
 use Rattle.tables.specs.Words.{bit, side, head_word, depth_in, side_in, marks_at, values_at, spot_words, heads_of, keys_of}
@@ -160,7 +160,7 @@ module _ (n : ℕ) where
   seat_agrees i (in_map j) h = refl
   seat_agrees i (in_list e) h = refl
 
-  pub head_agrees : (i : ℕ) → Agrees (want_head n i) (λ p. in_aMap p || is_greater i p)
+  pub head_agrees : (i : ℕ) → Agrees (want_head n i) (λ p. in_a_map p || is_greater i p)
   unfolding passes_one
   head_agrees i (in_map j) h = refl
   head_agrees i (in_list e) h = refl

@@ -1,5 +1,5 @@
--- Equal memory exactly for equal documents: the words of rows say the rows, so tables that hold rows hold no others, `holds-once`, and two
--- documents that the same tables hold are one, `memory-once`; and rows are held by one memory only, `held-once`.
+-- Equal memory exactly for equal documents: the words of rows say the rows, so tables that hold rows hold no others, `holds_once`, and two
+-- documents that the same tables hold are one, `memory_once`; and rows are held by one memory only, `held_once`.
 -- Assumes nothing.
 use Rattle.std.specs.Prelude.{ℕ, suc, ◌-◌, ◌≡◌, refl, Bool, true, false, length, replicate}
 use Rattle.std.proofs.Common.{arith, sym, ap, ◌∙◌}

@@ -1,4 +1,4 @@
--- The words of a plain value say it: `plain-once`; and so do those of some values: `each-once`.
+-- The words of a plain value say it: `plain_once`; and so do those of some values: `each_once`.
 -- Assumes nothing.
 use Rattle.std.specs.Prelude.{ℕ, zero, suc, ◌+◌, ◌*◌, ◌≤◌, ◌≡◌, refl, true, false, pos, negsuc, length, drop}
 use Rattle.std.proofs.Common.{arith, sym, ap, ◌∙◌, length-drop}

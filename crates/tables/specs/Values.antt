@@ -1,5 +1,5 @@
 -- Values as rows of six words, the first of which is the id: what is said of rows of words holds of values. And the values of a row as
--- `value_at` reads them: `value-first`, `value-next`, `values-stand`.
+-- `value_at` reads them: `value_first`, `value_next`, `values_stand`.
 -- Assumes nothing.
 use Rattle.std.specs.Prelude.{ℕ, ◌+◌, ◌*◌, ◌-◌, ◌≡◌, refl, true, false, pos, negsuc, get_or, drop, length, replicate}
 use Rattle.std.proofs.Common.{arith, sym, ap, ◌∙◌, get_or-drop, drop-drop, drop_at}

@@ -1,5 +1,5 @@
 -- Rows of w words: what a row more does to those kept, counted and ranked, and the loops over rows. Marks are rows of one word:
--- `rows-one`, `rank-one`.
+-- `rows_one`, `rank_one`.
 -- Assumes nothing.
 use Prim.Native.Nat.{ℕ, zero, suc, ◌+◌, ◌*◌, ◌-◌, ◌≤◌, ◌<◌}
 use mathlib.Core.Path.{◌≡◌, refl, sym, ap, ◌∙◌}
