@@ -1,7 +1,8 @@
 -- Document 01, "Messages": numbers, ids, counters, keys and values in text. Each layout is stated once, as the text that is written:
 -- a reader takes exactly these texts, so no second spelling exists.
 -- Assumes nothing: these are definitions.
-use Rattle.std.specs.Prelude.{ℕ, zero, suc, ◌+◌, ◌-◌, ◌/◌, ◌%◌, ◌^◌, true, false, cond, List, [], ◌∷◌, ◌++◌, ltb, ℤ, pos, negsuc, length, drop}
+use Rattle.std.specs.Prelude.{ℕ, zero, suc, ◌+◌, ◌-◌, ◌/◌, ◌%◌, ◌^◌, true, false, cond, List, [], ◌∷◌, ◌++◌, ltb, ℤ}
+use Rattle.std.specs.Prelude.{pos, negsuc, length, drop}
 use Rattle.meaning.specs.Ascii.{ascii, byte}
 use Rattle.meaning.specs.Ids.{counter_of, entry_of}
 use Rattle.meaning.specs.Places.{Plain, null, bool, integer, string}

@@ -305,7 +305,8 @@ unfolding play receipt_of edited_of saved_of reading_of ok ok_id ok_key ok_plain
     size within fits not_above repeated own_deps_behind look find elements_found astray upward downward
     receive dead able first without onward settle_in settle waits judge_ready judge_early judge finish
     largest edit_of spent judge_edit finish_edit edit
-    trail_text trail_steps place_way_text keys_way_text element_way_text lookup entered follow seek keys_text values_text present_ids nth_text at_place
+    trail_text trail_steps place_way_text keys_way_text element_way_text lookup entered follow seek keys_text values_text present_ids
+    nth_text at_place
     keys values nth_element answer_read over save
     digits width_from width decimal integer_text id_text comma_text counters_text hex_digit hex plain_text assigned_text
     prev_text steps_text do_text edit_text message rows rows_of spot_text line_text lines_text row_lines rows_lines sheet_lines sheet

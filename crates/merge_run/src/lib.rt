@@ -71,8 +71,8 @@ fn came(buf: &[u8], held: Cut, got: isize, errno: i32) -> Input
 }
 
 // Reads on behind the bytes that are held. There is room, so a read of no bytes is the input's end. `came` is told the answer as the system
-// gives it: a number of bytes, or -1 and the error number. No contract ties what it is told to what was answered: the proof names it, and runs
-// show it (docs/DECISIONS.md, 59).
+// gives it: a number of bytes, or -1 and the error number. No contract ties what it is told to what was answered: the proof names it,
+// and runs show it (docs/DECISIONS.md, 59).
 fn read_on(input: &mut Stdin, buf: &mut [u8], c: Cut) -> Input
     requires cut_inside { CutInside buf.old c }
     requires from_in_bounds { c.to - c.from < length buf.old }
@@ -161,8 +161,8 @@ fn whole_sheet(
     }
 }
 
-// Hands bytes to standard output, and only such as `merge` prints of an input that was read to its end. No contract of `write_all` says what
-// is written; an `Err` may leave a part of them written.
+// Hands bytes to standard output, and only such as `merge` prints of an input that was read to its end. No contract of `write_all` says
+// what is written; an `Err` may leave a part of them written.
 fn write_out(output: Stdout, bytes: &[u8]) -> Result<()>
     requires { Printable bytes.now }
 {
@@ -195,9 +195,9 @@ fn print(
 }
 
 // Reads standard input to its end and prints the sheet. If reading fails, or 2^64 - 1 reads don't come to the end, nothing is handed to
-// standard output and the error is returned, as it is if writing fails. Proved: the bytes that are handed to `write_all` are the sheet of the
-// terminal that has received the messages of the bytes that came, one after another. That these are the bytes of standard input, and that
-// what is handed over is written, no contract of `std` says.
+// standard output and the error is returned, as it is if writing fails. Proved: the bytes that are handed to `write_all` are the sheet of
+// the terminal that has received the messages of the bytes that came, one after another. That these are the bytes of standard input, and
+// that what is handed over is written, no contract of `std` says.
 pub fn merge(mut input: Stdin, output: Stdout) -> Result<()> {
     let mut heads = [0u64; HEADS];
     let mut keys = [0u64; KEYS];

@@ -4,7 +4,8 @@
 use Rattle.std.specs.Prelude.{ℕ, ◌≡◌, Bool, true, false, List, []}
 use Rattle.meaning.specs.Valid.{ValidEdit, ValidOperation}
 use Rattle.meaning.specs.Message.{message}
-use Rattle.meaning.specs.Read.{PlaceWay, ValidPlaceWay, place_way_text, KeysWay, of_root, of_place, ValidKeysWay, keys_way_text, element_way_text}
+use Rattle.meaning.specs.Read.{PlaceWay, ValidPlaceWay, place_way_text, KeysWay, of_root, of_place, ValidKeysWay}
+use Rattle.meaning.specs.Read.{keys_way_text, element_way_text}
 use Rattle.meaning.specs.Promises.{Says, says, says_nothing, Lines, lines_of}
 use Rattle.message.specs.Means.{pad, MeansEdit, Means, MeansPlace}
 use Rattle.message.specs.declared.Way.{Way}

@@ -4,7 +4,8 @@
 use Rattle.std.specs.Prelude.{ℕ, ◌≡◌, List}
 use Rattle.meaning.specs.Places.{Place, children_of, elements_of, values_of, Document}
 use Rattle.meaning.specs.Members.{All}
-use Rattle.meaning.specs.Read.{PlaceWay, ValidPlaceWay, Sought, seek, Finding, listed, keys_text, values_text, present_ids, nth_text, at_place}
+use Rattle.meaning.specs.Read.{PlaceWay, ValidPlaceWay, Sought, seek, Finding, listed, keys_text, values_text}
+use Rattle.meaning.specs.Read.{present_ids, nth_text, at_place}
 use Rattle.meaning.specs.Sheet.{Row, rows_of}
 use Rattle.meaning.specs.Answers.{Refusal, reading_answer}
 use Rattle.meaning.specs.declared.Reading.{Reading}

@@ -51,7 +51,8 @@ module _ (n : ℕ) (k : List ℕ) (f : Place → Place) (g : Block → Block) (h
           → seek_rows n (key_below k) (is_key k) g (made new n (in_map k) g) (rows_elements n fs)
           ≡ rows_children n (cond new (child k (f bare) childless) childless) ++ rows_elements n fs
       go empty m = seek_none n (key_below k) (is_key k) g (made new n (in_map k) g) ∙ (sym (append-nil _) ∙ m empty)
-      go (element i c fs) m = seek_stop n (key_below k) (is_key k) g (made new n (in_map k) g) (in_list i) c _ refl refl ∙ m (element i c fs)
+      go (element i c fs) m = seek_stop n (key_below k) (is_key k) g (made new n (in_map k) g) (in_list i) c _ refl refl
+          ∙ m (element i c fs)
 
   pub key_rows : (new : Bool) (ks : Children)
       → at_key_rows n new k g (rows_children n ks ++ rows_elements n es) ≡ rows_children n (at_key new k f ks) ++ rows_elements n es
@@ -72,7 +73,8 @@ module _ (n : ℕ) (k : List ℕ) (f : Place → Place) (g : Block → Block) (h
       less_rows p =
           unfold at_key_rows in
           (ap (seek_rows n (key_below k) (is_key k) g (made new n (in_map k) g)) whole
-          ∙ (seek_stop n (key_below k) (is_key k) g (made new n (in_map k) g) (in_map j) c _ (below_turn k j before p) (key_turn k j before p)
+          ∙ (seek_stop n (key_below k) (is_key k) g (made new n (in_map k) g) (in_map j) c _ (below_turn k j before p)
+          (key_turn k j before p)
           ∙ (ap (made new n (in_map k) g ++◌) (sym whole) ∙ made_rows new (child j c ks))))
 
       same_rows : order k j ≡ equal → goal (child j (f c) ks)

@@ -112,7 +112,8 @@ module _ (d : ℕ) where
   unfolding rows
   keys-passed (place m l ms vs ks es) B h =
       ap (passed (over (suc d) in_a_map)) (append_assoc (rows_children (suc d) ks) (rows_elements (suc d) es) B)
-      ∙ ((map_pass (suc d) in_a_map (λ k. refl) ks (rows_elements (suc d) es ++ B) [] (rows_elements (suc d) es ++ B) (map-ends es B h)).front
+      ∙ ((map_pass (suc d) in_a_map (λ k. refl) ks (rows_elements (suc d) es ++ B) [] (rows_elements (suc d) es ++ B)
+      (map-ends es B h)).front
       ∙ append-nil (rows_children (suc d) ks))
 
   place_ids : (c : Place) → read_under id_picked d (rows (suc d) c) ≡ present_ids (elements_of c)

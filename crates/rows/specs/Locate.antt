@@ -126,7 +126,8 @@ locate_key_lem n k (child j c ks) es = go (tri_k k j) (locate_key_lem n k ks es)
         let e : order k j ≡ equal = rw p (order_self j) in
         rw (e, lookup)
         (at-whole
-        ∙ (locate-meant n (key_below k) (is_key k) (in_map j) c us (below_turn k j equal e) (key_turn k j equal e) (shallow_children n ks es)
+        ∙ (locate-meant n (key_below k) (is_key k) (in_map j) c us (below_turn k j equal e) (key_turn k j equal e)
+        (shallow_children n ks es)
         ∙ ap (λ j. here (block_of n (in_map j) c)) (sym p)))
     go (more_k p q) r = rw (p, lookup) (at-whole ∙ (locate_pass n (key_below k) (is_key k) (in_map j) c us (below_turn k j beyond p) ∙ r))
 

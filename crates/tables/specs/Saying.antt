@@ -108,7 +108,8 @@ value_once v w h k e =
     λ t. record { id = i t; val = p t }
 
 -- as many values with equal words are equal
-pub each_once : (vs ws : List Value) → length vs ≡ length ws → All ValidValue vs → All ValidValue ws → each_value vs ≡ each_value ws → vs ≡ ws
+pub each_once : (vs ws : List Value) → length vs ≡ length ws → All ValidValue vs → All ValidValue ws
+    → each_value vs ≡ each_value ws → vs ≡ ws
 unfolding each_value
 each_once [] [] l h k e = refl
 each_once [] (w ∷ ws) l h k e = absurd (omega arith)

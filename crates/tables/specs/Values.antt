@@ -36,7 +36,8 @@ pub record ValuesStand (table : List ℕ) (i : ℕ) (vs : List places.Value) : T
   pub there : drop (6 * i) table ≡ each_value vs ++ later
 
 value_in : List ℕ → Value
-value_in ws = record { id = get_or ws 0 0; kind = get_or ws 1 0; words = get_or ws 2 0 ∷ get_or ws 3 0 ∷ get_or ws 4 0 ∷ get_or ws 5 0 ∷ [] }
+value_in ws =
+    record { id = get_or ws 0 0; kind = get_or ws 1 0; words = get_or ws 2 0 ∷ get_or ws 3 0 ∷ get_or ws 4 0 ∷ get_or ws 5 0 ∷ [] }
 
 value_stored : (id : ℕ) (x : Plain) (rest : List ℕ)
     → value_in (value_words (record { id = id; val = x }) ++ rest) ≡ stored_value (record { id = id; val = x })

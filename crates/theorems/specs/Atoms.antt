@@ -232,7 +232,8 @@ module _ (i : ℕ) (d : List ℕ) (j : ℕ) (e : List ℕ) (n : j ≢ i) (u : Fr
     list = map_list f _;
   }
 
-  pub friend_list : (f : Elements → Elements) → ((es : Elements) → clear_elements d (f es) ≡ f (clear_elements d es)) → Friend (on_list f) i d
+  pub friend_list : (f : Elements → Elements) → ((es : Elements) → clear_elements d (f es) ≡ f (clear_elements d es))
+      → Friend (on_list f) i d
   friend_list f h = record {
     marks = λ c. sym (mark_list i f c);
     drops = λ c. sym (drop_list d f c);

@@ -133,7 +133,8 @@ module _ (i : ℕ) (d : List ℕ) (j : ℕ) (e : List ℕ) (n : i ≢ j) (u : Fr
       (list_list f g h) (list_passing f j x) (λ c. sym (list_passing g i w c)) (passings w x)
 
   keys : (k l : List ℕ) (w x : Way) → Comm (run i d w) (run j e x) → (ks : Children)
-      → at_key (makes w) k (run i d w) (at_key (makes x) l (run j e x) ks) ≡ at_key (makes x) l (run j e x) (at_key (makes w) k (run i d w) ks)
+      → at_key (makes w) k (run i d w) (at_key (makes x) l (run j e x) ks)
+      ≡ at_key (makes x) l (run j e x) (at_key (makes w) k (run i d w) ks)
   keys k l w x h ks = go (tri_k k l)
     where
       f : Children → Children

@@ -1,7 +1,8 @@
 -- Eight counters: what the tests on them say entry by entry; what raising an entry does to them and to what they cover; the largest entry.
 -- Assumes nothing.
 use Rattle.std.specs.Prelude.{ℕ, zero, suc, ◌<◌, ◌≤◌, ◌≡◌, refl, true, false, List, [], ◌∷◌, ◌≢◌, leb, ltb, eqb, length}
-use Rattle.std.proofs.Common.{arith, mod-lt, ◌∙◌, length-set, get_or-set_same, get_or-set_other, le-leb, leb-true, lt-ltb, ltb-true, eq-eqb, eqb-true}
+use Rattle.std.proofs.Common.{arith, mod-lt, ◌∙◌, length-set, get_or-set_same, get_or-set_other, le-leb, leb-true}
+use Rattle.std.proofs.Common.{lt-ltb, ltb-true, eq-eqb, eqb-true}
 use Rattle.std.proofs.lemmas.Bool.{lt-leb, eqb-false}
 use Rattle.meaning.specs.Ids.{counter_of, entry_of, entry, covered, uncovered, at_most, all_below, ready, raise}
 use Rattle.meaning.specs.Edit.{largest, spent}

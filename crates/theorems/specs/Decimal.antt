@@ -1,7 +1,9 @@
 -- Decimal numbers: how long a number's text is, and reading it back.
 -- Assumes nothing.
-use Rattle.std.specs.Prelude.{ℕ, zero, suc, ◌+◌, ◌-◌, ◌*◌, ◌/◌, ◌%◌, ◌^◌, ◌≤◌, ◌<◌, ◌≡◌, refl, Bool, true, false, ◌&&◌, ◌||◌, List, [], ◌∷◌, ◌++◌, leb, length}
-use Rattle.std.proofs.Common.{arith, pow-suc, mod-eq_of_lt, mod-lt, eq-or-lt_of_le, add-zero, add-suc, suc-add, sym, ap, ◌∙◌, subst, ⊎_elim, lt-ltb, le-ltb, le-leb}
+use Rattle.std.specs.Prelude.{ℕ, zero, suc, ◌+◌, ◌-◌, ◌*◌, ◌/◌, ◌%◌, ◌^◌, ◌≤◌, ◌<◌, ◌≡◌, refl, Bool, true, false, ◌&&◌}
+use Rattle.std.specs.Prelude.{◌||◌, List, [], ◌∷◌, ◌++◌, leb, length}
+use Rattle.std.proofs.Common.{arith, pow-suc, mod-eq_of_lt, mod-lt, eq-or-lt_of_le, add-zero, add-suc, suc-add, sym, ap}
+use Rattle.std.proofs.Common.{◌∙◌, subst, ⊎_elim, lt-ltb, le-ltb, le-leb}
 use Rattle.std.proofs.Math.Nat.{pow-succ', pow-le-pow_right}
 use Rattle.std.proofs.Math.Arith.{mod-mul}
 use Rattle.meaning.specs.Ascii.{byte}

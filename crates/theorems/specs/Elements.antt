@@ -128,7 +128,8 @@ pub insert_insert : (p : Prev) (i : ℕ) (c : Place) (q : Prev) (j : ℕ) (x : P
     → insert_after p i c (insert_after q j x es) ≡ insert_after q j x (insert_after p i c es)
 insert_insert head i c head j x es n m o = simp insert_head (step_on-step_on i c j x es n)
 insert_insert head i c (after g) j x es n m o = simp (insert_head, insert_after_lem) (step_on-step_from i c g j x es n o)
-insert_insert (after e) i c head j x es n m o = simp (insert_head, insert_after_lem) (sym (step_on-step_from j x e i c es (λ z. n (sym z)) m))
+insert_insert (after e) i c head j x es n m o =
+    simp (insert_head, insert_after_lem) (sym (step_on-step_from j x e i c es (λ z. n (sym z)) m))
 insert_insert (after e) i c (after g) j x es n m o = simp insert_after_lem (step_from-step_from e i c g j x es n m o)
 
 -- Changes at elements.

@@ -10,7 +10,8 @@ use Rattle.meaning.specs.Places.{Plain, Place, place, Children, Elements, bare, 
 use Rattle.meaning.specs.Ways.{Assigned, plain, empty_map, empty_list, head, after}
 use Rattle.meaning.specs.Ways.{Way, assign, delete, insert, into_map, into_list, Operation, deletes, makes}
 use Rattle.meaning.specs.Clear.{clear}
-use Rattle.meaning.specs.Apply.{mark, drop_values, add_value, on_map, on_list, give, at_key, at_element, insert_after, passing, run, change, apply}
+use Rattle.meaning.specs.Apply.{mark, drop_values, add_value, on_map, on_list, give, at_key, at_element, insert_after}
+use Rattle.meaning.specs.Apply.{passing, run, change, apply}
 use Rattle.meaning.specs.Judge.{look, Found, found, unknown, is_found, find, elements_found, astray}
 use Rattle.theorems.specs.Finding.{look-at_key, look_clear, find-at_element, find_insert, on_found, find_clear}
 
@@ -100,7 +101,8 @@ module _ (d : List ℕ) where
   still_clear e (into_list g w) (place m l ms vs ks es) =
       ap (λ b. covered d g && b) (ap (onto d w) (find_clear e g es) ∙ go (find g es) (λ c. still_clear e w c))
     where
-      go : (f : Found) → ((c : Place) → elements_found d w (clear e c) ≡ elements_found d w c) → onto d w (on_found (clear e) f) ≡ onto d w f
+      go : (f : Found) → ((c : Place) → elements_found d w (clear e c) ≡ elements_found d w c)
+          → onto d w (on_found (clear e) f) ≡ onto d w f
       go (found c) h = h c
       go unknown h = refl
 
@@ -141,7 +143,8 @@ module _ (d : List ℕ) where
       }
   still_run i e (into_map k x) u =
       still_comp (on_map (at_key (makes x) k (run i e x))) (passing i x)
-      (still_map _ (λ w j ks. look-at_key (elements_found d w) k (run i e x) (λ c. still_run i e x u w c) j (makes x) ks)) (still_passing i x)
+      (still_map _ (λ w j ks. look-at_key (elements_found d w) k (run i e x) (λ c. still_run i e x u w c) j (makes x) ks))
+      (still_passing i x)
   still_run i e (into_list k x) u =
       still_comp (on_list (at_element k (run i e x))) (passing i x) (still_list _ (list (still_run i e x u))) (still_passing i x)
     where

@@ -11,7 +11,8 @@ use Rattle.theorems.specs.Decide.{Tri, less, same, more, tri, Same, is, isnt, al
 use Rattle.theorems.specs.Keys.{TriK, less_k, same_k, more_k, tri_k, order_self, order_trans}
 use Rattle.theorems.specs.Keys.{make, make_yes, make_no, key_childless, key_less, key_same, key_more, clear_childless, clear_child}
 use Rattle.theorems.specs.Elements.{element_empty, element_is, element_isnt, step_on_empty, step_on_skip, step_on_stop}
-use Rattle.theorems.specs.Elements.{step_from_empty, step_from-is, step_from_isnt, insert_head, insert_after_lem, clear_empty, clear_element}
+use Rattle.theorems.specs.Elements.{step_from_empty, step_from-is, step_from_isnt, insert_head, insert_after_lem}
+use Rattle.theorems.specs.Elements.{clear_empty, clear_element}
 use Rattle.theorems.specs.Atoms.{clear_bare}
 
 -- Under a key.

@@ -260,7 +260,8 @@ no_end t us e = absurd (let z : ◌≡◌ {A = ℕ} 0 1 = cc in omega arith)
 no_end_headed : {X : Type 0} (t : List ℕ) (us : List Row) → headed ≡ ended t us → X
 no_end_headed t us e = absurd (let z : ◌≡◌ {A = ℕ} 0 1 = cc in omega arith)
 
-from_seen : (s t : List ℕ) (us : List Row) (ls : List Line) → ValidCounters s → Left s [] ls t us → Whole (sheet_line ∷ seen_line s ∷ ls) t us
+from_seen : (s t : List ℕ) (us : List Row) (ls : List Line) → ValidCounters s → Left s [] ls t us
+    → Whole (sheet_line ∷ seen_line s ∷ ls) t us
 unfolding back rows_lines
 from_seen s t us ls c h = record {
   seen = subst ValidCounters h.seen c;

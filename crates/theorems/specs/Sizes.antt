@@ -1,6 +1,7 @@
 -- Sizes: a message has at most 463 bytes, and one has as many; the sheet of a sound document within the limits has at most 65,536.
 -- Assumes nothing.
-use Rattle.std.specs.Prelude.{ℕ, zero, suc, ◌+◌, ◌*◌, ◌≤◌, ◌≡◌, refl, Bool, true, false, List, [], ◌∷◌, ◌++◌, map, pos, negsuc, length, replicate}
+use Rattle.std.specs.Prelude.{ℕ, zero, suc, ◌+◌, ◌*◌, ◌≤◌, ◌≡◌, refl, Bool, true, false, List, [], ◌∷◌, ◌++◌, map, pos}
+use Rattle.std.specs.Prelude.{negsuc, length, replicate}
 use Rattle.std.proofs.Common.{arith, mod-lt, sym, ap, ◌∙◌, append_assoc, inl, inr, length-append, leb-true}
 use Rattle.meaning.specs.Ascii.{ascii}
 use Rattle.meaning.specs.Ids.{id_of, counter_of, entry_of, entry, covered}
@@ -10,7 +11,8 @@ use Rattle.meaning.specs.Ways.{Way, assign, delete, insert, into_map, into_list,
 use Rattle.meaning.specs.Limits.{fits}
 use Rattle.meaning.specs.Members.{All, Has, own, id_of_value}
 use Rattle.meaning.specs.Valid.{ValidCounters, ValidPlain, ValidAssigned, ValidPrev, ValidWay, ValidEdit, ValidOperation}
-use Rattle.meaning.specs.Text.{digits, width_from, width, decimal, integer_text, id_text, comma_text, counters_text, hex_digit, hex, plain_text}
+use Rattle.meaning.specs.Text.{digits, width_from, width, decimal, integer_text, id_text, comma_text, counters_text}
+use Rattle.meaning.specs.Text.{hex_digit, hex, plain_text}
 use Rattle.meaning.specs.Text.{assigned_text}
 use Rattle.meaning.specs.Message.{prev_text, steps_text, do_text, edit_text, message}
 use Rattle.meaning.specs.Sheet.{Spot, in_map, in_list, Row, rows_of, flags_text, spot_text, line_text, lines_text, row_lines, rows_lines}
