@@ -74,6 +74,7 @@ pub fn all_below(c: u64, d: Counters) -> bool
 }
 
 // Whether an operation with this id and deps d is ready where s is seen.
+#[tactic(auto, unfolding(meaning::specs::Ids::ready))]
 pub fn ready(s: Counters, id: u64, d: Counters) -> bool
     ensures { result ≡ Ids.ready s.at id d.at }
 {
@@ -85,6 +86,7 @@ pub fn ready(s: Counters, id: u64, d: Counters) -> bool
 }
 
 // Seen after the operation: its terminal's entry is its counter. An id whose counter no message carries leaves s as it is.
+#[tactic(auto, unfolding(crate::specs::Counted::raised))]
 pub fn raise(s: Counters, id: u64) -> Counters
     ensures { result.at ≡ raised s.at id }
 {

@@ -39,6 +39,7 @@ pub enum Number {
 }
 
 // The table: entry k is 10 to the power k.
+#[tactic(auto, unfolding(crate::specs::Powers::powers_of_ten, crate::specs::Powers::powers_from))]
 pub fn powers() -> [u64; 20]
     ensures { result ≡ powers_of_ten }
 {

@@ -6,6 +6,7 @@ use crate::Weight;
 use message::Deed;
 use readers::Given;
 
+#[tactic(auto, unfolding(crate::specs::Weighs::plain_given))]
 fn plain(g: Given) -> bool
     ensures { result ≡ plain_given g }
 {
@@ -22,6 +23,7 @@ fn plain(g: Given) -> bool
 }
 
 // Delete, assign of a plain value, of an empty map or list, insert of a plain value, of an empty map or list.
+#[tactic(auto, unfolding(crate::specs::Weighs::deed_number))]
 pub fn deed_number(deed: Deed) -> u64
     ensures { result ≡ deed_number deed }
 {
@@ -33,6 +35,7 @@ pub fn deed_number(deed: Deed) -> u64
 }
 
 // The mark on the way, unless the operation deletes.
+#[tactic(auto, unfolding(crate::specs::Weighs::marked))]
 pub fn mark(u: Weight, deed: u64) -> Weight
     requires { u.marks < 9223372036854775808 }
     ensures { result ≡ marked u deed }
@@ -100,6 +103,7 @@ pub fn weightless(found: bool) -> Weight
 }
 
 // A new element: a place with a mark, and a value if it is a plain one.
+#[tactic(auto, unfolding(crate::specs::Weighs::element_weighed))]
 pub fn element(found: bool, deed: u64) -> Weight
     ensures { result ≡ element_weighed found deed }
 {

@@ -26,6 +26,7 @@ fn of_map(h: Head, depth: u64) -> bool
 }
 
 // The length of a key: one that is too long counts as the empty key.
+#[tactic(auto, unfolding(crate::specs::Texts::short_of))]
 fn short_of(len: u64) -> u64
     ensures { (result ≡ short_of len) × (result ≤ 16) }
 {

@@ -92,6 +92,7 @@ fn may(last: u64, deed: Deed) -> bool
     }
 }
 
+#[tactic(auto, unfolding(crate::specs::Means::pad))]
 fn no_edit() -> EditRead
     ensures { result ≡ no_edit }
 {

@@ -145,6 +145,7 @@ fn take_head(s: &[u8], powers: &[u64; 20]) -> HeadRead
     }
 }
 
+#[tactic(auto, unfolding(crate::specs::Means::pad))]
 fn no_message() -> MessageRead
     ensures { result ≡ no_message }
 {

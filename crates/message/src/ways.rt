@@ -125,6 +125,7 @@ pub fn take_way(s: &[u8], a: usize, powers: &[u64; 20]) -> WayRead
     no_way()
 }
 
+#[tactic(auto, unfolding(crate::specs::Means::pad))]
 fn no_place() -> PlaceRead
     ensures { result ≡ no_place }
 {

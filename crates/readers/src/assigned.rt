@@ -7,6 +7,7 @@ use crate::hex::take_string;
 use crate::{Given, GivenRead, IntegerRead, take_integer};
 
 // A value without bytes of its own.
+#[tactic(auto, unfolding(crate::specs::Words::words_of, crate::specs::Words::pack))]
 fn a_value(given: Given, next: usize) -> GivenRead
     ensures { Bare given next result }
 {

@@ -11,6 +11,7 @@ use lines::{Spot, place_line_size, put_place_line};
 use tables::{Head, LIST, key_at};
 
 // Where a row hangs, by its side and its key's words.
+#[tactic(auto, unfolding(crate::specs::Texts::spot_in))]
 fn spot_of(side: u64, hi: u64, lo: u64, len: u64) -> Spot
     ensures { (result ≡ spot_in side (record { hi = hi; lo = lo; len = len })) × ShortKey result }
 {

@@ -60,6 +60,7 @@ pub fn next_message(s: &[u8], a: usize) -> usize
 }
 
 // The message that goes on from the cut ends at e.
+#[tactic(auto, unfolding(crate::specs::Steps::handed))]
 fn hand(c: Cut, e: usize) -> Step
     requires { c.from ≤ e }
     ensures { result ≡ handed c e }
@@ -80,6 +81,7 @@ fn hand(c: Cut, e: usize) -> Step
 
 // No message ends in the bytes that are held. Of a message that is too long the last five are enough: with what follows, they may be the LF
 // and an `op=1` line.
+#[tactic(auto, unfolding(crate::specs::Steps::waiting))]
 fn wait(c: Cut) -> Cut
     requires { c.from ≤ c.to }
     ensures { result ≡ waiting c }

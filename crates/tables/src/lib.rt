@@ -91,6 +91,7 @@ pub struct Search {
 }
 
 // Whether so many rows, marks and values have room in the tables.
+#[tactic(auto, unfolding(crate::specs::Holding::within_tables))]
 pub fn within(c: Counts) -> bool
     ensures { result ≡ within_tables c }
 {
@@ -242,6 +243,7 @@ pub fn search_of(n: u64, k: Key) -> Search
 }
 
 // The key that is looked for, beside a row's: before it (0), the same (1), or beyond it (2).
+#[tactic(auto, unfolding(meaning::specs::Places::order))]
 fn turn_of(w: Key, k: Key) -> u64
     ensures { result ≡ turn_number (turn w k) }
 {
@@ -267,6 +269,7 @@ fn turn_of(w: Key, k: Key) -> u64
 }
 
 // Of the rows of the depth that is looked at, those that are gone over.
+#[tactic(auto, unfolding(crate::specs::Seek::passes_one))]
 fn passes_one(w: Search, side: u64, k: Key) -> bool
     ensures { result ≡ passes_one w side k }
 {
@@ -287,6 +290,7 @@ fn passes_one(w: Search, side: u64, k: Key) -> bool
     }
 }
 
+#[tactic(auto, unfolding(crate::specs::Seek::goes_over))]
 fn goes_over(w: Search, h: Head, k: Key) -> bool
     ensures { result ≡ goes_over w h k }
 {
@@ -301,6 +305,7 @@ fn goes_over(w: Search, h: Head, k: Key) -> bool
 }
 
 // Whether a row is the one that is looked for.
+#[tactic(auto, unfolding(crate::specs::Seek::is_sought))]
 pub fn is_sought(w: Search, h: Head, k: Key) -> bool
     ensures { result ≡ is_sought w h k }
 {

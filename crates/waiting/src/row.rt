@@ -42,6 +42,7 @@ fn given_number(g: Given) -> u64
 }
 
 // The value of a code and a number.
+#[tactic(auto, unfolding(crate::specs::Rows::given_by))]
 fn given_by(code: u64, n: u64) -> Given
     ensures { result ≡ given_by code n }
 {
@@ -80,6 +81,7 @@ fn deed_number(d: Deed) -> u64
 }
 
 // What is done, by a code and a number.
+#[tactic(auto, unfolding(crate::specs::Rows::deed_by))]
 fn deed_by(code: u64, n: u64) -> Deed
     ensures { result ≡ deed_by code n }
 {

@@ -137,6 +137,7 @@ pub fn counters_size(counters: Counters, powers: &[u64; 20]) -> usize
 }
 
 // The kind of a plain value by its number, and by the first of its words, which is an integer's. A number that is no kind's counts as null.
+#[tactic(auto, unfolding(crate::specs::Held::kind_in))]
 fn kind_of(kind: u64, n: u64) -> Kind
     ensures { (result ≡ kind_in kind n) × InBounds result }
 {
