@@ -3,7 +3,6 @@
 use Prim.Native.Nat.{ℕ, ◌+◌, ◌≤◌}
 use native.Mathlib.Omega.{arith}
 use mathlib.Core.Path.{◌≡◌, refl}
-use mathlib.Core.Bool.{Bool, true, false}
 use mathlib.Core.List.{List, [], ◌∷◌, ◌++◌}
 use lib.ListN.{length, length-append}
 use Rattle.meaning.specs.Members.{own}
@@ -13,8 +12,10 @@ use Rattle.theorems.specs.Members.{put_length}
 use Rattle.theorems.specs.Accepting.{marks_append, values-append}
 use Rattle.rows.specs.Blocks.{new_row, mark_row}
 use Rattle.tables.specs.Holding.{Holds, flag_row}
-use Rattle.tables.specs.Words.{Tables}
+use Rattle.tables.specs.declared.Tables.{Tables}
 use Rattle.tables.specs.declared.Counts.{Counts}
+use Rattle.tables.specs.declared.Side.{Side}
+use Rattle.tables.specs.declared.Side.TheVariants as S
 use Rattle.act.specs.Acting.{Does}
 
 -- How much more there is after a change of the row r, and of the rows us behind it; A are the rows before them and R those beyond.
@@ -62,13 +63,13 @@ row_does T U c e A R r q x y H N = block_does T U c e A R [] [] r q x y H N refl
 pub marked_more : (i : ℕ) (r : Row) → length (mark_row i r).marks ≤ length r.marks + 1
 marked_more i r = omega (arith, put_length own i r.marks)
 
-pub flag_marks : (b : Bool) (r : Row) → length (flag_row b r).marks ≡ length r.marks
-flag_marks true r = refl
-flag_marks false r = refl
+pub flag_marks : (b : Side) (r : Row) → length (flag_row b r).marks ≡ length r.marks
+flag_marks S.List r = refl
+flag_marks S.Map r = refl
 
-pub flag_values : (b : Bool) (r : Row) → length (flag_row b r).values ≡ length r.values
-flag_values true r = refl
-flag_values false r = refl
+pub flag_values : (b : Side) (r : Row) → length (flag_row b r).values ≡ length r.values
+flag_values S.List r = refl
+flag_values S.Map r = refl
 
 -- a new row is one more, with no mark and no value
 pub record Opened (c e : Counts) : Type 0 where

@@ -12,7 +12,7 @@ use Rattle.meaning.specs.Sheet.{Row}
 use Rattle.theorems.specs.Accepting.{marks_append}
 use Rattle.message.specs.declared.Deed.{Deed}
 use Rattle.words.specs.Gap.{Leaves}
-use Rattle.tables.specs.Words.{Tables}
+use Rattle.tables.specs.declared.Tables.{Tables}
 use Rattle.tables.specs.Standing.{behind}
 use Rattle.tables.specs.Holding.{Holds}
 use Rattle.tables.specs.Parts.{at-behind}

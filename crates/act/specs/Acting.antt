@@ -7,14 +7,13 @@ use Rattle.meaning.specs.Valid.{ValidAssigned, ValidWay}
 use Rattle.meaning.specs.Sheet.{in_list, Row}
 use Rattle.rows.specs.Blocks.{passed, rest, Block, join, deeper, give_block, run_block, insert_rows}
 use Rattle.rows.specs.Counting.{Fresh, new_block}
-use Rattle.readers.specs.Words.{value_words}
 use Rattle.readers.specs.Given.{given_of}
 use Rattle.readers.specs.declared.Given.{Given}
-use Rattle.message.specs.Means.{prev_words, way_words, deed_of, deed_words}
+use Rattle.message.specs.Means.{prev_words, way_words, deed_of}
 use Rattle.message.specs.declared.Deed.{Deed}
 use Rattle.message.specs.declared.Deed.TheVariants as D
 use Rattle.words.specs.Gap.{Leaves}
-use Rattle.tables.specs.Words.{Tables}
+use Rattle.tables.specs.declared.Tables.{Tables}
 use Rattle.tables.specs.Standing.{behind}
 use Rattle.tables.specs.Holding.{Holds, four}
 use Rattle.tables.specs.declared.Counts.{Counts}
@@ -46,12 +45,12 @@ pub record Does (U : Tables) (c e : Counts) (rows marks values : ℕ) (rs : List
 unfoldable pub marks_by : Deed → ℕ → ℕ
 marks_by deed n = cond (is_delete deed) 0 n
 
--- something is assigned: g with these words
-abbrev pub Gives : ℕ → List ℕ → Given → List ℕ → ℕ → Position → Counts → List ℕ → List ℕ → List ℕ → Counts → ℕ → List ℕ → List ℕ → List ℕ
+-- something is assigned
+abbrev pub Gives : ℕ → List ℕ → Given → ℕ → Position → Counts → List ℕ → List ℕ → List ℕ → Counts → ℕ → List ℕ → List ℕ → List ℕ
     → Type 0
-Gives i d g ws n s c h m v e p' h' m' v' =
+Gives i d g n s c h m v e p' h' m' v' =
     (k : List ℕ) (A R : List Row) (r : Row) (a : Assigned) → Holds (four h k m v) c (A ++ r ∷ R) → s ≡ behind A
-    → ValidAssigned a → g ≡ given_of a → ws ≡ value_words a → Fresh i (r ∷ []) → 0 < n → Spare c 0 n 1
+    → ValidAssigned a → g ≡ given_of a → Fresh i (r ∷ []) → 0 < n → Spare c 0 n 1
     → Leaves (n - 1) s.mark p' m' (λ t. Does (four h' k t v') c e 0 1 1
     (A ++ (join (give_block i d a (block_at r.depth r R)) ++ rest (deeper r.depth) R)))
 
@@ -59,7 +58,7 @@ Gives i d g ws n s c h m v e p' h' m' v' =
 abbrev pub Finishes : Act → ℕ → Position → Counts → List ℕ → List ℕ → List ℕ → Counts → ℕ → List ℕ → List ℕ → List ℕ → Type 0
 Finishes o n s c h m v e p' h' m' v' =
     (k : List ℕ) (A R : List Row) (r : Row) (w : Way) → Holds (four h k m v) c (A ++ r ∷ R) → s ≡ behind A
-    → way_words w ≡ [] → ValidWay w → o.deed ≡ deed_of w → o.words ≡ deed_words w → Fresh o.id (r ∷ []) → 0 < n → Spare c 0 n 1
+    → way_words w ≡ [] → ValidWay w → o.deed ≡ deed_of w → Fresh o.id (r ∷ []) → 0 < n → Spare c 0 n 1
     → Leaves (marks_by o.deed (n - 1)) s.mark p' m' (λ t. Does (four h' k t v') c e 0 1 1
     (A ++ (join (run_block o.id o.deps.at r.depth w (block_at r.depth r R)) ++ rest (deeper r.depth) R)))
 
@@ -71,6 +70,6 @@ with_marks U t = four U.heads U.keys t U.values
 abbrev pub Inserts : Act → ℕ → ℕ → ℕ → Position → Counts → Tables → Counts → ℕ → Tables → Type 0
 Inserts o n hi len from c T e p' U =
     (A B : List Row) (p : Prev) (a : Assigned) → Holds T c (A ++ B) → from ≡ behind A → hi ∷ 0 ∷ len ∷ [] ≡ prev_words p
-    → ValidAssigned a → o.deed ≡ D.Insert (given_of a) → o.words ≡ value_words a → n ≤ 8 → Fresh o.id B → 0 < n → Spare c 1 n 1
+    → ValidAssigned a → o.deed ≡ D.Insert (given_of a) → n ≤ 8 → Fresh o.id B → 0 < n → Spare c 1 n 1
     → Leaves (n - 1) from.mark p' U.marks (λ t. Does (with_marks U t) c e 1 1 1
     (A ++ insert_rows n p o.id (join (give_block o.id o.deps.at a (new_block n (in_list o.id)))) B))

@@ -1,17 +1,16 @@
 // Document 01, "Applying an operation": what is done at the way's end, on the tables, in place: assign, insert, delete. Each function is
-// safe on any memory.
+// safe on any memory, and lent only the tables that it changes (docs/DECISIONS.md, 40).
 #![tactic(auto)]
 
-ghost use Rattle.tables.specs.Holding.{four};
+ghost use Rattle.deeds.specs.Deeds.{given_in};
 ghost use Rattle.act.specs.Acting.{Gives, Finishes, Inserts};
 
 use deeds::{branch_of, given_in, is_delete, kind_of, parts_of};
-use meaning::Counters;
 use message::Act;
-use readers::Given;
+use readers::{ELEMENT, Key};
 use seats::find_seat;
 use steps::WithGap;
-use tables::{Counts, Position};
+use tables::{Counts, Position, Side, Tables, Value};
 
 // Assigns at a row: a plain value takes the place of those that deps cover; an empty map or list clears the place. The mark is the first of
 // n that are to be put in.
@@ -21,30 +20,26 @@ fn give(
     values: &mut [u64],
     c: Counts,
     s: Position,
-    id: u64,
-    deps: Counters,
-    g: Given,
-    words: [u64; 4],
+    o: Act,
     n: usize,
 ) -> WithGap
-    ensures { Gives id deps.at g words n s c heads.old marks.old values.old result.counts result.gap
+    ensures { Gives o.id o.deps.at (given_in o.deed) n s c heads.old marks.old values.old result.counts result.gap
         heads.new marks.new values.new }
 {
-    let branch = branch_of(g);
-    if branch == 0 {
-        let a = steps::mark_row(heads, marks, c, s, id, c.marks, n);
-        let kind = kind_of(g);
-        let parts = parts_of(g, words);
-        let e = values::set_value(heads, values, a.counts, s, deps, id, kind, parts);
-        return WithGap {
-            counts: e,
-            gap: a.gap,
+    let g = given_in(o.deed);
+    let Some(side) = branch_of(g) else {
+        let a = steps::mark_row(heads, marks, c, s, o.id, c.marks, n);
+        let v = Value {
+            id: o.id,
+            kind: kind_of(g),
+            words: parts_of(g),
         };
-    }
-    let row = s.row;
-    let a = clear::clear_block(heads, marks, values, c, s, deps);
-    let b = steps::mark_row(heads, marks, a, s, id, a.marks, n);
-    steps::flag_row(heads, row, branch == 2);
+        let counts = values::set_value(heads, values, a.counts, s, o.deps, v);
+        return WithGap { counts, gap: a.gap };
+    };
+    let a = clear::clear_block(heads, marks, values, c, s, o.deps);
+    let b = steps::mark_row(heads, marks, a, s, o.id, a.marks, n);
+    steps::flag_row(heads, s.row, side);
     b
 }
 
@@ -61,70 +56,39 @@ pub fn finish(
     ensures { Finishes o n s c heads.old marks.old values.old result.counts result.gap
         heads.new marks.new values.new }
 {
-    let deed = o.deed;
-    let deps = o.deps;
-    if is_delete(deed) {
-        let counts = clear::clear_block(heads, marks, values, c, s, deps);
+    if is_delete(o.deed) {
+        let counts = clear::clear_block(heads, marks, values, c, s, o.deps);
         return WithGap {
             counts,
             gap: counts.marks,
         };
     }
-    let words = o.words;
-    give(
-        heads,
-        marks,
-        values,
-        c,
-        s,
-        o.id,
-        deps,
-        given_in(deed),
-        words,
-        n,
-    )
+    give(heads, marks, values, c, s, o, n)
 }
 
 // Puts a new element in, if its predecessor is there, and assigns its value.
-pub fn put_element(
-    heads: &mut [u64],
-    keys: &mut [u64],
-    marks: &mut [u64],
-    values: &mut [u64],
-    c: Counts,
-    from: Position,
-    n: u64,
-    hi: u64,
-    len: u64,
-    o: Act,
-) -> WithGap
-    ensures { Inserts o n hi len from c (four heads.old keys.old marks.old values.old)
-        result.counts result.gap (four heads.new keys.new marks.new values.new) }
+pub fn put_element(t: &mut Tables, c: Counts, from: Position, n: u64, prev: Key, o: Act) -> WithGap
+    ensures { Inserts o n prev.hi prev.len from c t.old result.counts result.gap t.new }
 {
-    let deed = o.deed;
-    let deps = o.deps;
-    let words = o.words;
-    let id = o.id;
-    let s = find_seat(heads, keys, c.rows, from, n, hi, len, id);
-    if !s.there {
+    let Some(at) = find_seat(t, c.rows, from, n, prev, o.id) else {
         return WithGap {
             counts: c,
             gap: c.marks,
         };
-    }
-    let at = s.at;
-    let row = at.row;
-    let e = steps::open_row(heads, keys, c, row, n, 1, id, 0, 17);
+    };
+    let new = Key {
+        hi: o.id,
+        lo: 0,
+        len: ELEMENT,
+    };
+    let e = steps::open_row(&mut t.heads, &mut t.keys, c, at.row, n, Side::List, new);
     give(
-        heads,
-        marks,
-        values,
+        &mut t.heads,
+        &mut t.marks,
+        &mut t.values,
         e,
         at,
-        id,
-        deps,
-        given_in(deed),
-        words,
+        o,
         n as usize,
     )
 }

@@ -5,7 +5,8 @@ use native.Mathlib.Omega.{arith}
 use mathlib.Core.Path.{◌≡◌, refl, sym, ap, ap₂, ◌∙◌, subst}
 use mathlib.Core.Bool.{Bool, true, false, cond, true≢false, false≢true}
 use mathlib.Core.List.{List, ◌++◌}
-use lib.ListN.{length, take}
+use lib.ListN.{take}
+use Rattle.std.specs.Prelude.{Ok, Err}
 use borrow.Author.Tests.{le-leb}
 use Rattle.meaning.specs.Ids.{counter_of, raise}
 use Rattle.meaning.specs.Places.{Document}
@@ -27,9 +28,9 @@ use Rattle.rows.specs.Within.{under_rows, apply_under}
 use Rattle.rows.specs.Counting.{Fresh}
 use Rattle.rows.specs.Room.{sound_fresh}
 use Rattle.counters.specs.Counted.{raised}
-use Rattle.message.specs.Means.{deed_words, Means}
+use Rattle.message.specs.Means.{Means}
 use Rattle.message.specs.declared.Operation.{Operation}
-use Rattle.tables.specs.Words.{Tables}
+use Rattle.tables.specs.declared.Tables.{Tables}
 use Rattle.tables.specs.Holding.{Holds}
 use Rattle.tables.specs.declared.Counts.{Counts}
 use Rattle.tables.specs.declared.Position.{Position}
@@ -38,30 +39,21 @@ use Rattle.words.proofs.Gap.{gap_closed}
 use Rattle.act.specs.Acting.{marks_by, with_marks}
 use Rattle.descend.specs.Doing.{Descends}
 use Rattle.act.proofs.Gaps.{marks_most}
-use Rattle.judging.specs.Judging.{is_taken, judgement_of, by_counters, ready_verdict, verdict_by, verdict, Newer, Tops, Judges}
+use Rattle.judging.specs.Judging.{Judgement, ReadyJudgement, is_taken, judgement_of, by_counters, ready_verdict, verdict_by, verdict, Newer, Tops, Judges}
 use Rattle.judging.specs.declared.Refusal.TheVariants as F
 use Rattle.judging.specs.declared.Readiness.TheVariants as B
-use Rattle.judging.specs.declared.ReadyJudgement.{ReadyJudgement}
-use Rattle.judging.specs.declared.ReadyJudgement.TheVariants as Y
-use Rattle.judging.specs.declared.Judgement.{Judgement}
+use Rattle.judging.specs.declared.Unfit.TheVariants as Y
 use Rattle.judging.proofs.Tops.{rows_top}
-use Rattle.judging.proofs.Verdicts.{whole, steps-whole, deed_whole, way_part, cut_short}
+use Rattle.judging.proofs.Verdicts.{whole, steps-whole, deed_whole, way_part}
 use Rattle.judging.proofs.Judged.{newer, here_stores}
 use Rattle.apply.specs.Applying.{CarriesOut, TakesAt, TakesOn, Applies}
-use Rattle.apply.specs.declared.Later.{Later}
+use Rattle.keeping.specs.declared.Document as K
 
 module _ (T : Tables) (c : Counts) (s : Position) (op : Operation) where
   pub carry_long : 8 < op.way.n → CarriesOut T c s op c T
   carry_long l D o S m val y t = absurd (omega (arith, l, (steps-whole op o m val).0, (steps-whole op o m val).1))
 
-  pub carry_cut : length op.way.keys < 3 * op.way.n → CarriesOut T c s op c T
-  carry_cut l D o S m val y t = absurd (cut_short op o m val l)
-
 module _ (T U : Tables) (c e : Counts) (s : Position) (op : Operation) where
-  value_whole : (o : M.Operation) → Means op o → op.act.words ≡ deed_words (whole o)
-  unfolding deed_words
-  value_whole o m = m.edit.words
-
   same_rows : (o : M.Operation) (rs : List Row) → Means op o
       → under_rows op.act.id op.act.deps.at 1 (whole o) rs ≡ apply_rows o rs
   same_rows o rs m = ap₂ (λ i d. under_rows i d 1 (whole o) rs) m.id m.deps ∙ sym (apply_under o rs)
@@ -78,7 +70,7 @@ module _ (T U : Tables) (c e : Counts) (s : Position) (op : Operation) where
       let H = subst (Holds T c) (sym (passed-rest over-it (rows_of D))) S.rows in
       let f = subst (λ i. Fresh i (rows_of D)) (sym m.id) (sound_fresh D o.id S.sound y) in
       let d = X (passed over-it (rows_of D)) (rest over-it (rows_of D)) (whole o) H t (part ∙ way_part op o m val)
-      (val.edit.first, val.edit.rest) (deed_whole op o m val) (value_whole o m) (omega (arith, r))
+      (val.edit.first, val.edit.rest) (deed_whole op o m val) (omega (arith, r))
       (fresh_parts a.id over-it (rows_of D) f).1 (omega arith) (record {
         rows_spare = omega (arith, r, l.places, S.rows.rows_are);
         marks_spare = omega (arith, r, l.marks, S.rows.marks_are);
@@ -96,7 +88,7 @@ module _ (T U : Tables) (c e : Counts) (s : Position) (op : Operation) where
 
 -- by the counters
 taken_ready : (a b c d : Bool) (y : ReadyJudgement)
-    → is_taken (verdict_by (cond a (B.Refused F.Counter) (cond b (B.Refused F.Repeat) (cond c (B.Refused F.OwnDeps) (cond d B.Ready B.Early)))) y)
+    → is_taken (verdict_by (cond a (Err F.Counter) (cond b (Err F.Repeat) (cond c (Err F.OwnDeps) (cond d (Ok B.Ready) (Ok B.Early))))) y)
     ≡ true
     → (b ≡ false) × (is_taken (judgement_of y) ≡ true)
 taken_ready true b c d y t = absurd (false≢true t)
@@ -106,26 +98,27 @@ taken_ready false false false true y t = (refl, t)
 taken_ready false false false false y t = absurd (false≢true t)
 
 -- by the rest
-taken_is : (y : ReadyJudgement) → is_taken (judgement_of y) ≡ true → y ≡ Y.Taken
-taken_is Y.Taken t = refl
-taken_is Y.NoElement t = absurd (false≢true t)
-taken_is Y.NotSmaller t = absurd (false≢true t)
-taken_is Y.NoRoom t = absurd (false≢true t)
+taken_is : (y : ReadyJudgement) → is_taken (judgement_of y) ≡ true → y ≡ Ok tt
+taken_is (Ok u) t = refl
+taken_is (Err y) t = absurd (false≢true t)
 
-taken_fits : (a b c : Bool) → cond a Y.NoElement (cond b Y.NotSmaller (cond c Y.Taken Y.NoRoom)) ≡ Y.Taken → c ≡ true
+abbrev fit_by : Bool → Bool → Bool → ReadyJudgement
+fit_by a b c = cond a (Err Y.NoElement) (cond b (Err Y.NotSmaller) (cond c (Ok tt) (Err Y.NoRoom)))
+
+taken_fits : (a b c : Bool) → fit_by a b c ≡ Ok tt → c ≡ true
 taken_fits true b c t = absurd (false≢true (ap (λ y. is_taken (judgement_of y)) t))
 taken_fits false true c t = absurd (false≢true (ap (λ y. is_taken (judgement_of y)) t))
 taken_fits false false true t = refl
 taken_fits false false false t = absurd (false≢true (ap (λ y. is_taken (judgement_of y)) t))
 
-room-left : (o : M.Operation) (D : Document) → ready_verdict o D ≡ Y.Taken → fits (apply o D) ≡ true
+room-left : (o : M.Operation) (D : Document) → ready_verdict o D ≡ Ok tt → fits (apply o D) ≡ true
 unfolding ready_verdict
 room-left o D t = taken_fits (astray D o) (downward o) (fits (apply o D)) t
 
 -- a verdict that takes it: it is newer, and was judged so where it is ready
 record Taken (o : M.Operation) (D : Document) : Type 0 where
   new : Newer D o
-  is : ready_verdict o D ≡ Y.Taken
+  is : ready_verdict o D ≡ Ok tt
 
 verdict_taken : (o : M.Operation) (D : Document) → is_taken (verdict o D) ≡ true → Taken o D
 unfolding verdict by_counters
@@ -137,35 +130,34 @@ raised_seen : (s : List ℕ) (o : M.Operation) → ValidOperation o → raised s
 unfolding raised
 raised_seen s o val = rw (le-leb (counter_of o.id) 4294967295 val.id.high)
 
-module _ (T : Tables) (c : Counts) (seen : Counters) (op : Operation) (U : Tables) where
-  pub takes_at : (e : Counts) (after : Counters) (s : Position) → CarriesOut T c s op e U → after.at ≡ raised seen.at op.act.id
-      → TakesAt T c seen s op (record { counts = e; seen = after }) U
+module _ (d : K.Document) (op : Operation) where
+  pub takes_at : (U : Tables) (e : Counts) (after : Counters) (s : Position) → CarriesOut d.tables d.counts s op e U
+      → after.at ≡ raised d.seen.at op.act.id → TakesAt d s op (record { tables = U; counts = e; seen = after })
   unfolding apply
-  takes_at e after s C r D o S m val n y t =
+  takes_at U e after s C r D o S m val n y t =
       record {
-        rows = C D o (here_stores T c seen.at D S) m val n t;
+        rows = C D o (here_stores d.tables d.counts d.seen.at D S) m val n t;
         counters = r ∙ (ap₂ raised S.counters m.id ∙ raised_seen D.seen o val);
         sound = sound_apply o D val n S.sound;
         limits = room-left o D y;
       }
 
-  pub takes_on : (l : Later) (s : Position) → Tops T c op.way.keys s → TakesAt T c seen s op l U → TakesOn T c seen op l U
-  takes_on l s P K D o S m val y =
+  pub takes_on : (e : K.Document) (s : Position) → Tops d.tables d.counts op.way.keys s → TakesAt d s op e → TakesOn d op e
+  takes_on e s P K D o S m val y =
       let k = verdict_taken o D y in
-      K D o S m val k.new k.is (P D o (here_stores T c seen.at D S) m.edit.keys val)
+      K D o S m val k.new k.is (P D o (here_stores d.tables d.counts d.seen.at D S) m.edit.keys val)
 
-module _ (T : Tables) (c : Counts) (seen : Counters) (op : Operation) (a : Judgement) (G : Judges T c seen op a) where
-  pub applies_taken : (U : Tables) (l : Later) → is_taken a ≡ true → TakesOn T c seen op l U
-      → Applies T c seen op (record { answer = a; counts = l.counts; seen = l.seen }) U
-  applies_taken U l t K = record {
-    answers = G;
-    takes = λ D o S m val y. K D o S m val (ap is_taken (sym (G D o S m val)) ∙ t);
-    refuses = λ y. absurd (true≢false (sym t ∙ y));
-  }
+  module _ (a : Judgement) (G : Judges d.tables d.counts d.seen op a) where
+    pub applies_taken : (e : K.Document) → is_taken a ≡ true → TakesOn d op e → Applies d op a e
+    applies_taken e t K = record {
+      answers = G;
+      takes = λ D o S m val y. K D o S m val (ap is_taken (sym (G D o S m val)) ∙ t);
+      refuses = λ y. absurd (true≢false (sym t ∙ y));
+    }
 
-  pub applies_refused : is_taken a ≡ false → Applies T c seen op (record { answer = a; counts = c; seen = seen }) T
-  applies_refused t = record {
-    answers = G;
-    takes = λ D o S m val y. absurd (true≢false (sym y ∙ t));
-    refuses = λ y. (refl, refl, refl);
-  }
+    pub applies_refused : is_taken a ≡ false → Applies d op a d
+    applies_refused t = record {
+      answers = G;
+      takes = λ D o S m val y. absurd (true≢false (sym y ∙ t));
+      refuses = λ y. refl;
+    }

@@ -4,112 +4,42 @@
 
 mod carry;
 
-ghost use Rattle.tables.specs.Holding.{four};
 ghost use Rattle.apply.specs.Applying.{TakesAt, TakesOn, Applies};
 
 use carry::carry_out;
-use judging::{Judgement, Readiness, is_taken, judge_counters, judge_ready, judgement_of, top_of};
-use meaning::Counters;
+use judging::{Judgement, Readiness, judge_counters, judge_ready, top_of};
+use keeping::Document;
 use message::Operation;
-use tables::{Counts, Position};
-
-#[derive(Clone, Copy)]
-pub struct Outcome {
-    pub answer: Judgement,
-    pub counts: Counts,
-    pub seen: Counters,
-}
-
-// The document's counts and counters after an operation that was taken.
-#[derive(Clone, Copy)]
-pub struct Later {
-    pub counts: Counts,
-    pub seen: Counters,
-}
+use tables::Position;
 
 // Takes an operation that was judged so, from where the search for its first key stops: carries it out, and raises seen.
-pub fn take_at(
-    heads: &mut [u64],
-    keys: &mut [u64],
-    marks: &mut [u64],
-    values: &mut [u64],
-    c: Counts,
-    seen: Counters,
-    top: Position,
-    op: Operation,
-) -> Later
-    ensures { TakesAt (four heads.old keys.old marks.old values.old) c seen top op result
-        (four heads.new keys.new marks.new values.new) }
+pub fn take_at(d: &mut Document, top: Position, op: Operation)
+    ensures { TakesAt d.old top op d.new }
 {
-    let counts = carry_out(heads, keys, marks, values, c, top, op);
-    let after = counters::raise(seen, op.act.id);
-    Later {
-        counts,
-        seen: after,
-    }
+    d.counts = carry_out(&mut d.tables, d.counts, top, op);
+    d.seen = counters::raise(d.seen, op.act.id);
 }
 
 // The same, where the first key is still to be looked for.
-pub fn take(
-    heads: &mut [u64],
-    keys: &mut [u64],
-    marks: &mut [u64],
-    values: &mut [u64],
-    c: Counts,
-    seen: Counters,
-    op: Operation,
-) -> Later
-    ensures { TakesOn (four heads.old keys.old marks.old values.old) c seen op result
-        (four heads.new keys.new marks.new values.new) }
+pub fn take(d: &mut Document, op: Operation)
+    ensures { TakesOn d.old op d.new }
 {
-    let top = top_of(heads, keys, c.rows, op);
-    take_at(heads, keys, marks, values, c, seen, top, op)
+    let top = top_of(d, op);
+    take_at(d, top, op);
 }
 
 // Judges an operation, and takes it if it may be. A refusal changes nothing.
-pub fn apply(
-    heads: &mut [u64],
-    keys: &mut [u64],
-    marks: &mut [u64],
-    values: &mut [u64],
-    c: Counts,
-    seen: Counters,
-    op: Operation,
-) -> Outcome
-    ensures { Applies (four heads.old keys.old marks.old values.old) c seen op result
-        (four heads.new keys.new marks.new values.new) }
+pub fn apply(d: &mut Document, op: Operation) -> Judgement
+    ensures { Applies d.old op result d.new }
 {
-    let readiness = judge_counters(seen, op);
+    let readiness = judge_counters(d.seen, op)?;
     match readiness {
         Readiness::Ready => {
-            let top = top_of(heads, keys, c.rows, op);
-            let j = judge_ready(heads, keys, marks, values, c, top, op);
-            let answer = judgement_of(j);
-            if !is_taken(answer) {
-                return Outcome {
-                    answer,
-                    counts: c,
-                    seen,
-                };
-            }
-            let later = take_at(heads, keys, marks, values, c, seen, top, op);
-            let counts = later.counts;
-            let raised = later.seen;
-            Outcome {
-                answer,
-                counts,
-                seen: raised,
-            }
+            let top = top_of(d, op);
+            judge_ready(d, top, op)?;
+            take_at(d, top, op);
+            Ok(Readiness::Ready)
         }
-        Readiness::Early => Outcome {
-            answer: Judgement::Early,
-            counts: c,
-            seen,
-        },
-        Readiness::Refused(r) => Outcome {
-            answer: Judgement::Refused(r),
-            counts: c,
-            seen,
-        },
+        Readiness::Early => Ok(Readiness::Early),
     }
 }

@@ -7,8 +7,8 @@ ghost use Rattle.std.specs.Prelude.{◌<◌, length};
 ghost use Rattle.clear.specs.Clear.{passing, In, Starts, ClearsRow, ClearsBranch, ClearsPlace, Clears};
 
 use meaning::Counters;
-use tables::{Counts, DEEPEST, Position, head_in, with_counts};
-use words::{close, keep_marks, keep_values};
+use tables::{Counts, DEEPEST, Position, VALUE_WORDS, head_in, with_counts};
+use words::{close, keep_rows};
 
 // Where a pass over the rows stands: the row, in marks and in values the word to read, and the word behind the last that stays.
 #[derive(Clone, Copy)]
@@ -38,34 +38,18 @@ fn clear_row(
     let head = head_in(h);
     let n = head.marks;
     let k = head.values;
-    let from = p.mark;
-    let start = p.value;
-    let words = k * 6;
-    let skipped = Cursor {
-        row: next,
-        mark: from,
-        marked: p.marked,
-        value: start,
-        valued: p.valued,
-    };
-    if marks.len() - from < n {
-        return skipped;
+    let words = k * VALUE_WORDS;
+    if marks.len() - p.mark < n || values.len() - p.value < words {
+        return Cursor { row: next, ..p };
     }
-    if values.len() - start < words {
-        return skipped;
-    }
-    let to = keep_marks(marks, from, n, p.marked, d);
-    let end = keep_values(values, start, k, p.valued, d);
-    let stay = to - p.marked;
-    let values_stay = (end - p.valued) / 6;
-    heads[row] = with_counts(h, stay, values_stay);
-    let read = from + n;
-    let values_read = start + words;
+    let to = keep_rows::<1>(marks, p.mark, n, p.marked, d);
+    let end = keep_rows::<VALUE_WORDS>(values, p.value, k, p.valued, d);
+    heads[row] = with_counts(h, to - p.marked, (end - p.valued) / VALUE_WORDS);
     Cursor {
         row: next,
-        mark: read,
+        mark: p.mark + n,
         marked: to,
-        value: values_read,
+        value: p.value + words,
         valued: end,
     }
 }
@@ -91,7 +75,8 @@ fn clear_place(
     clear_branch(heads, marks, values, rows, q, d, n, left)
 }
 
-// Clears the places from the cursor on that are deeper than n, which are those under a place of depth n.
+// Clears the places from the cursor on that are deeper than n, which are those under a place of depth n. A loop, since `clear_place` moves
+// the cursor on by as many rows as its block has.
 #[cycle(clear_branch_clear_place)]
 fn clear_branch(
     heads: &mut [u64],
@@ -110,6 +95,7 @@ fn clear_branch(
     if left == 0 {
         return p;
     }
+    // no `for`: the cursor moves on by the block that was cleared
     let mut q = p;
     while q.row < rows {
         let row = q.row;
@@ -137,49 +123,30 @@ pub fn clear_block(
     let live = c.marks;
     let row = s.row;
     let mark = s.mark;
-    if rows > heads.len() {
+    if rows > heads.len() || row >= rows || live > marks.len() || mark > live {
         return c;
     }
-    if row >= rows {
+    if c.values > values.len() / VALUE_WORDS || s.value > c.values {
         return c;
     }
-    if live > marks.len() {
-        return c;
-    }
-    if mark > live {
-        return c;
-    }
-    if c.values > values.len() / 6 {
-        return c;
-    }
-    if s.value > c.values {
-        return c;
-    }
-    let words = c.values * 6;
-    let value = s.value * 6;
+    let words = c.values * VALUE_WORDS;
+    let value = s.value * VALUE_WORDS;
     let p = Cursor {
-        row: row,
-        mark: mark,
+        row,
+        mark,
         marked: mark,
-        value: value,
+        value,
         valued: value,
     };
     let q = clear_place(heads, marks, values, rows, p, d, DEEPEST);
-    if q.mark > live {
+    if q.mark > live || q.value > words {
         return c;
     }
-    if q.value > words {
-        return c;
-    }
-    let gone = q.mark - q.marked;
-    let gone_words = q.value - q.valued;
     close(marks, live, q.mark, q.marked);
     close(values, words, q.value, q.valued);
-    let left = live - gone;
-    let words_left = words - gone_words;
     Counts {
-        rows: rows,
-        marks: left,
-        values: words_left / 6,
+        marks: live - (q.mark - q.marked),
+        values: (words - (q.value - q.valued)) / VALUE_WORDS,
+        ..c
     }
 }

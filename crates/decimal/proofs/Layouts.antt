@@ -3,10 +3,11 @@
 -- these: what it takes, and what it refuses.
 -- Assumes nothing.
 use Prim.Native.Nat.{ℕ, ◌≤◌}
-use mathlib.Core.Path.{◌≡◌, refl, sym, ap, ◌∙◌}
+use mathlib.Core.Path.{◌≡◌, refl, sym, ap, ◌∙◌, subst}
 use mathlib.Core.List.{List, ◌++◌, append_assoc}
 use lib.ListN.{length, drop}
-use Rattle.decimal.specs.Take.{Layout, Took, Never, fixed, then}
+use Rattle.std.specs.Prelude.{Option, None}
+use Rattle.decimal.specs.Take.{Layout, Took, Never, Reads, fixed, then}
 use Rattle.decimal.proofs.Digits.{cancel}
 
 -- A fixed text, whatever follows.
@@ -17,6 +18,10 @@ stands p s a n e w =
 
 pub lacks : (p s : List ℕ) (a : ℕ) → ((t : List ℕ) → drop a s ≡ p ++ t → ⊥) → Never (fixed p) s a
 lacks p s a h = record { not = λ y t ok st e. h t e }
+
+-- What a reader that gives up answers.
+pub refused : {X : Type 0} {L : Layout X} {s : List ℕ} {a : ℕ} (r : Option (X × ℕ)) → r ≡ None → Never L s a → Reads L s a r
+refused {X} {L} {s} {a} r e k = subst (Reads L s a) (sym e) k
 
 -- Two texts, one behind the other.
 

@@ -4,142 +4,100 @@ use Prim.Native.Nat.{ℕ, zero, suc, ◌+◌, ◌-◌, ◌*◌, ◌/◌, ◌%◌
 use native.Mathlib.Omega.{arith}
 use native.Mathlib.Nat.{pow-suc}
 use mathlib.Core.Path.{◌≡◌, refl, sym, ap, ◌∙◌, subst}
-use mathlib.Core.Bool.{Bool, true, false, ◌&&◌}
-use lib.Dec.{leb}
+use mathlib.Core.Bool.{false}
 use mathlib.Core.List.{List, [], ◌∷◌, ◌++◌, append_assoc, append-nil}
-use lib.ListN.{length, get_or, take, drop, set, drop_of_length-le, length-set, take-append-drop}
-use lib.Seq.{drop-cons}
-use borrow.Author.Tests.{lt-leb}
+use lib.ListN.{length, get_or, take, drop, set, drop_of_length-le, length-set, length-drop, take-append-drop}
+use lib.Seq.{drop-cons, drop-drop}
 use Rattle.meaning.specs.Ascii.{byte}
 use Rattle.meaning.specs.Text.{digits, width, decimal, over}
-use Rattle.theorems.specs.Decimal.{length-decimal}
+use Rattle.theorems.specs.Decimal.{length-decimal, is_digit}
 use Rattle.decimal.specs.Take.{Layout, Took, Never, Wrote}
 use Rattle.decimal.specs.Numbers.{NoDigit, numbers, Spells, ReadsNumber}
-use Rattle.decimal.specs.declared.Number.{Number}
-use Rattle.decimal.specs.declared.Number.TheVariants.{Value, Bad}
+use Rattle.std.specs.Prelude.{Option, None, Some}
 use Rattle.decimal.proofs.Digits.{digits_last, scan, scan_stop, scan-run, scan_grows, scan-decimal, decimal_once}
 
 -- Reading.
 
--- from a to i stand digits, whose number v is at most max
-pub record Run (max : ℕ) (s : List ℕ) (a i v : ℕ) : Type 0 where
-  pub from : a ≤ i
-  pub text : drop a s ≡ digits (i - a) v ++ drop i s
-  pub fits : v < 10 ^ (i - a)
+-- r is what stands from a on; it begins with n digits, whose number v is at most max
+pub record Run (max : ℕ) (s : List ℕ) (a : ℕ) (r : List ℕ) (n v : ℕ) : Type 0 where
+  pub at : r ≡ drop a s
+  pub text : r ≡ digits n v ++ drop n r
+  pub fits : v < 10 ^ n
   pub most : v ≤ max
-  pub within : a ≤ length s → i ≤ length s
+  pub within : n ≤ length r
 
-pub start : (max : ℕ) (s : List ℕ) (a : ℕ) → Run max s a a 0
+pub start : (max : ℕ) (s : List ℕ) (a : ℕ) (r : List ℕ) → r ≡ drop a s → Run max s a r 0 0
 unfolding digits
-start max s a =
-    let e : 0 ≡ a - a = omega arith in
-    record {
-      from = omega arith;
-      text = ap (λ n. digits n 0 ++ drop a s) e;
-      fits = subst (λ (n : ℕ). 0 < 10 ^ n) e (omega arith);
-      most = omega arith;
-      within = λ h. h;
-    }
+start max s a r e = record { at = e; text = refl; fits = omega arith; most = omega arith; within = omega arith }
 
--- no digit at i, or nothing
-pub low_stops : (s : List ℕ) (i : ℕ) → i < length s → get_or s i 0 < byte "0" → NoDigit (drop i s)
-low_stops s i h l = rw (drop-cons s i 0 h, lt-leb (byte "0") (get_or s i 0) l)
+-- no digit at n, or nothing
+pub stops : (r : List ℕ) (n : ℕ) → n < length r → is_digit (get_or r n 0) ≡ false → NoDigit (drop n r)
+stops r n h e = rw (drop-cons r n 0 h) e
 
-pub high_stops : (s : List ℕ) (i : ℕ) → i < length s → byte "9" < get_or s i 0 → NoDigit (drop i s)
-high_stops s i h l = rw (drop-cons s i 0 h, lt-leb (get_or s i 0) (byte "9") l) (both (leb (byte "0") (get_or s i 0)))
-  where
-    both : (b : Bool) → b && false ≡ false
-    both true = refl
-    both false = refl
+pub end_stops : (r : List ℕ) (n : ℕ) → length r ≤ n → NoDigit (drop n r)
+end_stops r n h = rw (drop_of_length-le r h) tt
 
-pub end_stops : (s : List ℕ) (i : ℕ) → length s ≤ i → NoDigit (drop i s)
-end_stops s i h = rw (drop_of_length-le s h) tt
+-- a digit at n, with which the number v goes on to w
+pub record Next (r : List ℕ) (n v w : ℕ) : Type 0 where
+  pub inside : n < length r
+  pub low : byte "0" ≤ get_or r n 0
+  pub high : get_or r n 0 ≤ byte "9"
+  pub goes : w ≡ v * 10 + (get_or r n 0 - byte "0")
 
--- the digit d at i
-pub record Next (s : List ℕ) (i d : ℕ) : Type 0 where
-  pub inside : i < length s
-  pub low : byte "0" ≤ get_or s i 0
-  pub high : get_or s i 0 ≤ byte "9"
-  pub digit : d ≡ get_or s i 0 - byte "0"
-
-module _ (max : ℕ) (s : List ℕ) (a i v : ℕ) (r : Run max s a i v) where
+module _ (max : ℕ) (s : List ℕ) (a : ℕ) (r : List ℕ) (n v : ℕ) (k : Run max s a r n v) where
   -- one digit more, were there no limit
-  longer : (d : ℕ) → Next s i d → (drop a s ≡ digits (i + 1 - a) (v * 10 + d) ++ drop (i + 1) s) × (v * 10 + d < 10 ^ (i + 1 - a))
-  longer d x =
-      let n : suc (i - a) ≡ i + 1 - a = omega (arith, r.from) in
-      let m : suc i ≡ i + 1 = omega arith in
-      let q : (v * 10 + d) / 10 ≡ v = omega (arith, x.digit, x.high) in
-      let c : get_or s i 0 ≡ byte "0" + (v * 10 + d) % 10 = omega (arith, x.digit, x.low, x.high) in
-      let l : digits (suc (i - a)) (v * 10 + d) ≡ digits (i - a) v ++ ((byte "0" + (v * 10 + d) % 10) ∷ []) =
-      digits_last (i - a) (v * 10 + d) ∙ ap (λ y. digits (i - a) y ++ ((byte "0" + (v * 10 + d) % 10) ∷ [])) q in (
-        r.text
-            ∙ (ap (λ t. digits (i - a) v ++ t) (drop-cons s i 0 x.inside
-            ∙ (ap (λ y. y ∷ drop (suc i) s) c ∙ ap (λ k. (byte "0" + (v * 10 + d) % 10) ∷ drop k s) m))
-            ∙ (sym (append_assoc (digits (i - a) v) ((byte "0" + (v * 10 + d) % 10) ∷ []) (drop (i + 1) s))
-            ∙ (ap (λ t. t ++ drop (i + 1) s) (sym l) ∙ ap (λ k. digits k (v * 10 + d) ++ drop (i + 1) s) n))),
-        subst (λ (k : ℕ). v * 10 + d < 10 ^ k) n (omega (arith, pow-suc 10 (i - a), r.fits, x.digit, x.high)),
+  longer : (w : ℕ) → Next r n v w → (r ≡ digits (n + 1) w ++ drop (n + 1) r) × (w < 10 ^ (n + 1))
+  longer w x =
+      let m : suc n ≡ n + 1 = omega arith in
+      let q : w / 10 ≡ v = omega (arith, x.goes, x.high) in
+      let c : get_or r n 0 ≡ byte "0" + w % 10 = omega (arith, x.goes, x.low, x.high) in
+      let l : digits (suc n) w ≡ digits n v ++ ((byte "0" + w % 10) ∷ []) =
+      digits_last n w ∙ ap (λ y. digits n y ++ ((byte "0" + w % 10) ∷ [])) q in (
+        k.text
+            ∙ (ap (λ t. digits n v ++ t) (drop-cons r n 0 x.inside
+            ∙ (ap (λ y. y ∷ drop (suc n) r) c ∙ ap (λ i. (byte "0" + w % 10) ∷ drop i r) m))
+            ∙ (sym (append_assoc (digits n v) ((byte "0" + w % 10) ∷ []) (drop (n + 1) r))
+            ∙ (ap (λ t. t ++ drop (n + 1) r) (sym l) ∙ ap (λ i. digits i w ++ drop (n + 1) r) m))),
+        subst (λ (i : ℕ). w < 10 ^ i) m (omega (arith, pow-suc 10 n, k.fits, x.goes, x.high)),
       )
 
-  pub more : (d : ℕ) → Next s i d → v * 10 + d ≤ max → Run max s a (i + 1) (v * 10 + d)
-  more d x h = let l = longer d x in record {
-    from = omega (arith, r.from);
-    text = l.0;
-    fits = l.1;
-    most = h;
-    within = λ k. omega
-        (arith, x.inside);
-  }
+  pub more : (w : ℕ) → Next r n v w → w ≤ max → Run max s a r (n + 1) w
+  more w x h = let l = longer w x in record { at = k.at; text = l.0; fits = l.1; most = h; within = omega (arith, x.inside) }
 
   -- with one digit more the number is above max, and so is every number that goes on so
-  pub above : (d : ℕ) → Next s i d → max < v * 10 + d → Never (numbers 0 max) s a
-  above d x h = record {
+  pub above : (w : ℕ) → Next r n v w → max < w → Never (numbers 0 max) s a
+  above w x h = record {
     not = λ y t ok st e.
-        let l = longer d x in
-        let z = sym (scan-run (i + 1 - a) (v * 10 + d) (drop (i + 1) s) l.1) ∙ (ap (scan 0 0) (sym l.0 ∙ e) ∙ scan-decimal y t st) in
-        omega (arith, ap (λ p. p.0) z, scan_grows (v * 10 + d) (i + 1 - a) (drop (i + 1) s), ok.1);
+        let l = longer w x in
+        let z = sym (scan-run (n + 1) w (drop (n + 1) r) l.1) ∙ (ap (scan 0 0) (sym l.0 ∙ (k.at ∙ e)) ∙ scan-decimal y t st) in
+        omega (arith, ap (λ p. p.0) z, scan_grows w (n + 1) (drop (n + 1) r), ok.1);
   }
 
   -- where the digits end, they are the decimal of v if their number is its width
-  pub settled : (n : ℕ) → n ≡ i - a → NoDigit (drop i s) → (w : Number) → Spells n v i w → ReadsNumber (numbers 0 max) s a w
+  pub settled : NoDigit (drop n r) → (w : Option (ℕ × ℕ)) → Spells n v (a + n) w → ReadsNumber (numbers 0 max) s a w
   unfolding decimal
-  settled n e h (Value w m) (p, q, g) =
+  settled h (Some (w, m)) (p, q, g) =
       rw (p, q) (record {
-        valid = (omega arith, r.most);
+        valid = (omega arith, k.most);
         text = stands;
-        rest = h;
-        within = r.within;
-        only = λ y t ok st f. decimal_once y v t (drop i s) st h (sym f ∙ stands);
+        rest = subst NoDigit behind h;
+        within = λ i. omega (arith, k.within, ap length k.at, length-drop a s);
+        only = λ y t ok st f. decimal_once y v t (drop (a + n) s) st (subst NoDigit behind h) (sym f ∙ stands);
       })
     where
-      stands : drop a s ≡ decimal v ++ drop i s
-      stands = r.text ∙ ap (λ k. digits k v ++ drop i s) (sym (g ∙ e))
-  settled n e h Bad p = record {
+      behind : drop n r ≡ drop (a + n) s
+      behind = ap (drop n) k.at ∙ drop-drop n a s
+
+      stands : drop a s ≡ decimal v ++ drop (a + n) s
+      stands = sym k.at ∙ (k.text ∙ (ap (λ j. digits j v ++ drop n r) (sym g) ∙ ap (λ t. decimal v ++ t) behind))
+  settled h None p = record {
     not = λ y t ok st f.
-        let z = sym (scan_stop v (i - a) (drop i s) h)
-        ∙ (sym (scan-run (i - a) v (drop i s) r.fits) ∙ (ap (scan 0 0) (sym r.text ∙ f) ∙ scan-decimal y t st)) in
-        let k : v ≡ y = ap (λ w. w.0) z in
-        let g : i - a ≡ width y = ap (λ w. w.1) z in
-        p (ap width k ∙ (sym g ∙ sym e));
+        let z = sym (scan_stop v n (drop n r) h)
+        ∙ (sym (scan-run n v (drop n r) k.fits) ∙ (ap (scan 0 0) (sym k.text ∙ (k.at ∙ f)) ∙ scan-decimal y t st)) in
+        let j : v ≡ y = ap (λ w. w.0) z in
+        let g : n ≡ width y = ap (λ w. w.1) z in
+        p (ap width j ∙ sym g);
   }
-
--- From min on.
-
-pub none_between : (min max : ℕ) (s : List ℕ) (a : ℕ) → Never (numbers 0 max) s a → Never (numbers min max) s a
-none_between min max s a r = record { not = λ y t ok st e. r.not y t (omega arith, ok.1) st e }
-
-module _ (min max : ℕ) (s : List ℕ) (a v n : ℕ) (r : Took (numbers 0 max) s a v n) where
-  pub too_small : v < min → Never (numbers min max) s a
-  too_small z = record { not = λ y t ok st e. omega (arith, ok.0, (r.only y t (omega arith, ok.1) st e).0) }
-
-  pub between : min ≤ v → Took (numbers min max) s a v n
-  between z =
-      record {
-        valid = (z, r.valid.1);
-        text = r.text;
-        rest = r.rest;
-        within = r.within;
-        only = λ y t ok st e. r.only y t (omega arith, ok.1) st e;
-      }
 
 -- Writing.
 
@@ -198,8 +156,8 @@ written v n b buffer x i w e z =
 
 -- What a reader of a number said, where its answer is known.
 
-pub number_took : {L : Layout ℕ} {s : List ℕ} {a v n : ℕ} (r : Number) → r ≡ Value v n → ReadsNumber L s a r → Took L s a v n
+pub number_took : {L : Layout ℕ} {s : List ℕ} {a v n : ℕ} (r : Option (ℕ × ℕ)) → r ≡ Some (v, n) → ReadsNumber L s a r → Took L s a v n
 number_took {L} {s} {a} r e k = subst (ReadsNumber L s a) e k
 
-pub number_none : {L : Layout ℕ} {s : List ℕ} {a : ℕ} (r : Number) → r ≡ Bad → ReadsNumber L s a r → Never L s a
+pub number_none : {L : Layout ℕ} {s : List ℕ} {a : ℕ} (r : Option (ℕ × ℕ)) → r ≡ None → ReadsNumber L s a r → Never L s a
 number_none {L} {s} {a} r e k = subst (ReadsNumber L s a) e k

@@ -22,6 +22,10 @@ pub power : (t : List ℕ) (k : ℕ) → t ≡ powers_of_ten → k < 20 → get_
 unfolding powers_of_ten
 power t k e h = ap (λ l. get_or l k 0) e ∙ (entries 20 0 k h ∙ ap (λ m. 10 ^ m) (zero-add k))
 
+-- no power passed so far is above v
+pub passed : (v n : ℕ) → 10 ^ n ≤ v → 1 < n + 1 → 10 ^ (n + 1 - 1) ≤ v
+passed v n h l = let e : n ≡ n + 1 - 1 = omega arith in subst (λ (i : ℕ). 10 ^ i ≤ v) e h
+
 -- n digits are those of v if v is below 10 ^ n, and not below 10 ^ (n - 1) unless n is 1
 pub width_is : (n v : ℕ) → 1 ≤ n → v < 10 ^ n → (1 < n → 10 ^ (n - 1) ≤ v) → width v ≡ n
 width_is n v a h g = go (tri (width v) n)
@@ -36,10 +40,6 @@ width_is n v a h g = go (tri (width v) n)
 
 pub size_is : (n v : ℕ) → 1 ≤ n → v < 10 ^ n → (1 < n → 10 ^ (n - 1) ≤ v) → n ≡ length (decimal v)
 size_is n v a h g = sym (length-decimal v ∙ width_is n v a h g)
-
--- no power passed so far is above v
-pub passed : (v n : ℕ) → 10 ^ n ≤ v → 1 < n + 1 → 10 ^ (n + 1 - 1) ≤ v
-passed v n h l = let e : n ≡ n + 1 - 1 = omega arith in subst (λ (i : ℕ). 10 ^ i ≤ v) e h
 
 -- a number that has the width n is not below 10 ^ (n - 1)
 pub width_low : (n v : ℕ) → width v ≡ n → 1 < n → 10 ^ (n - 1) ≤ v

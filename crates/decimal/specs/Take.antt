@@ -1,6 +1,6 @@
 -- What a reader and a writer of a text promise, whatever the text is of. A layout is stated once, as the text that is written.
 -- Assumes nothing: these are definitions.
-use Rattle.std.specs.Prelude.{ℕ, ◌≤◌, ◌≡◌, List, ◌++◌, length, drop}
+use Rattle.std.specs.Prelude.{ℕ, ◌≤◌, ◌≡◌, List, ◌++◌, length, drop, Option, None, Some}
 use Rattle.meaning.specs.Text.{over}
 
 -- The texts of the valid things of a kind, and what may follow the text of each: behind `1` no further digit.
@@ -20,6 +20,11 @@ pub record Took {X : Type 0} (L : Layout X) (s : List ℕ) (a : ℕ) (x : X) (n 
 -- No text of a valid thing stands there.
 pub record Never {X : Type 0} (L : Layout X) (s : List ℕ) (a : ℕ) : Type 0 where
   pub not : (x : X) (t : List ℕ) → L.Valid x → L.More x t → drop a s ≡ L.text x ++ t → ⊥
+
+-- What a reader of a layout answers: a thing whose text stands there, and the place behind it; or nothing.
+abbrev pub Reads : {X : Type 0} → Layout X → List ℕ → ℕ → Option (X × ℕ) → Type 0
+Reads L s a (Some (x, n)) = Took L s a x n
+Reads L s a None = Never L s a
 
 -- A text was written at the start of a buffer: n bytes, and the rest of the buffer is as it was.
 pub record Wrote (text before after : List ℕ) (n : ℕ) : Type 0 where

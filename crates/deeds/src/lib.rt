@@ -5,121 +5,91 @@ ghost use Rattle.std.specs.Prelude.{◌≡◌, [], ◌∷◌};
 ghost use Rattle.deeds.specs.Deeds.{is_delete, is_insert, given_in, branch_of, string_kind, kind_of, parts_of, may_make, inserts_here};
 
 use message::Deed;
-use readers::Given;
+use readers::{Given, LONGEST};
+use tables::Side;
 
 pub fn is_delete(deed: Deed) -> bool
     ensures { result ≡ is_delete deed }
 {
-    match deed {
-        Deed::Assign(_) => false,
-        Deed::Insert(_) => false,
-        Deed::Delete => true,
-    }
+    matches!(deed, Deed::Delete)
 }
 
 pub fn is_insert(deed: Deed) -> bool
     ensures { result ≡ is_insert deed }
 {
-    match deed {
-        Deed::Assign(_) => false,
-        Deed::Insert(_) => true,
-        Deed::Delete => false,
-    }
+    matches!(deed, Deed::Insert(_))
 }
 
-// What is assigned or inserted.
+// What is assigned or inserted. No Option: `act::put_element` gives it without asking again whether the deed deletes.
 pub fn given_in(deed: Deed) -> Given
     ensures { result ≡ given_in deed }
 {
     match deed {
-        Deed::Assign(g) => g,
-        Deed::Insert(g) => g,
+        Deed::Assign(g) | Deed::Insert(g) => g,
         Deed::Delete => Given::Null,
     }
 }
 
-// A plain value (0), an empty map (1) or an empty list (2).
-pub fn branch_of(g: Given) -> u64
+// The branch of an empty map or list; none of a plain value.
+pub fn branch_of(g: Given) -> Option<Side>
     ensures { result ≡ branch_of g }
 {
     match g {
-        Given::Null => 0,
-        Given::True => 0,
-        Given::False => 0,
-        Given::NonNeg(_) => 0,
-        Given::Neg(_) => 0,
-        Given::String(_) => 0,
-        Given::Map => 1,
-        Given::List => 2,
+        Given::Map => Some(Side::Map),
+        Given::List => Some(Side::List),
+        Given::Null
+        | Given::True
+        | Given::False
+        | Given::NonNeg(_)
+        | Given::Neg(_)
+        | Given::String(_) => None,
     }
 }
 
+#[tactic(auto, unfolding(crate::specs::Deeds::string_kind))]
 fn string_kind(n: u64) -> u64
     ensures { result ≡ string_kind n }
 {
-    if n > 32 {
-        return 5;
-    }
-    5 + n
+    if n > 32 { 5 } else { 5 + n }
 }
 
-// The number of a plain value's kind; a string's tells its length.
+// The number of a plain value's kind; a string's tells its length. A number and no enum: it is a word of the table.
 pub fn kind_of(g: Given) -> u64
     ensures { result ≡ kind_of g }
 {
     match g {
-        Given::Null => 0,
+        Given::Null | Given::Map | Given::List => 0,
         Given::True => 1,
         Given::False => 2,
         Given::NonNeg(_) => 3,
         Given::Neg(_) => 4,
-        Given::String(n) => string_kind(n),
-        Given::Map => 0,
-        Given::List => 0,
+        Given::String(bytes) => string_kind(bytes.len),
     }
 }
 
-fn one_word(n: u64) -> [u64; 4]
-    ensures { result ≡ n ∷ 0 ∷ 0 ∷ 0 ∷ [] }
-{
-    [n, 0, 0, 0]
-}
-
-// A plain value's words, of which a string's were read with it.
-pub fn parts_of(g: Given, words: [u64; 4]) -> [u64; 4]
-    ensures { result ≡ parts_of g words }
+// A plain value's words: an integer's first, a string's bytes.
+pub fn parts_of(g: Given) -> [u64; 4]
+    ensures { result ≡ parts_of g }
 {
     match g {
-        Given::Null => words,
-        Given::True => words,
-        Given::False => words,
-        Given::NonNeg(n) => one_word(n),
-        Given::Neg(n) => one_word(n),
-        Given::String(_) => words,
-        Given::Map => words,
-        Given::List => words,
+        Given::NonNeg(n) | Given::Neg(n) => [n, 0, 0, 0],
+        Given::String(bytes) => bytes.words,
+        Given::Null | Given::True | Given::False | Given::Map | Given::List => [0; 4],
     }
 }
 
 // Whether an unknown place is made: it has a key, and isn't the target of a delete.
+#[tactic(auto, unfolding(crate::specs::Deeds::may_make))]
 pub fn may_make(len: u64, left: usize, deed: Deed) -> bool
     ensures { result ≡ may_make len left deed }
 {
-    if len > 16 {
-        return false;
-    }
-    if left > 0 {
-        return true;
-    }
-    !is_delete(deed)
+    len <= LONGEST && (left > 0 || !is_delete(deed))
 }
 
 // Whether the way's last key is the predecessor of a new element.
+#[tactic(auto, unfolding(crate::specs::Deeds::inserts_here))]
 pub fn inserts_here(left: usize, deed: Deed) -> bool
     ensures { result ≡ inserts_here left deed }
 {
-    if left == 3 {
-        return is_insert(deed);
-    }
-    false
+    left == 3 && is_insert(deed)
 }

@@ -10,7 +10,7 @@ use Rattle.meaning.specs.Sheet.{Spot, in_map, in_list, Row}
 use Rattle.rows.specs.Blocks.{run_block, at_key_rows, at_element_rows}
 use Rattle.rows.specs.Within.{under_rows, GoesOn, of_list}
 use Rattle.readers.specs.Words.{pack}
-use Rattle.message.specs.Means.{prev_words, way_words, deed_of, deed_words}
+use Rattle.message.specs.Means.{prev_words, way_words, deed_of}
 use Rattle.message.specs.declared.Deed.{Deed}
 use Rattle.tables.specs.Finds.{Agrees, Tells}
 use Rattle.readers.specs.declared.Key.{Key}
@@ -132,13 +132,12 @@ pub record Goes (i : ℕ) (d : List ℕ) (n hi lo len left : ℕ) (deed : Deed) 
   pub words : way_words w ≡ hi ∷ lo ∷ len ∷ way_words next
   pub valid : ValidWay next
   pub deed_same : deed_of w ≡ deed_of next
-  pub value_same : deed_words w ≡ deed_words next
   pub one_more : steps w ≡ suc (steps next)
 
 module _ (i : ℕ) (d : List ℕ) (n : ℕ) where
   goes_key : (k : List ℕ) (w : Way) → ValidKey k → ValidWay w
       → Goes i d n (pack 8 k) (pack 8 (drop 8 k)) (length k) (length (way_words w)) (deed_of w) (into_map k w)
-  unfolding under_rows at_key_rows way_words deed_of deed_words steps
+  unfolding under_rows at_key_rows way_words deed_of steps
   goes_key k w vk vw =
       let q = want_key_lem n (three_key (pack 8 k) (pack 8 (drop 8 k)) (length k)) vk.short in
       record {
@@ -154,12 +153,11 @@ module _ (i : ℕ) (d : List ℕ) (n : ℕ) where
         words = refl;
         valid = vw;
         deed_same = refl;
-        value_same = refl;
         one_more = refl;
       }
 
   goes_element : (e : ℕ) (w : Way) → ValidWay w → Goes i d n e 0 17 (length (way_words w)) (deed_of w) (into_list e w)
-  unfolding under_rows at_element_rows way_words deed_of deed_words steps may_make
+  unfolding under_rows at_element_rows way_words deed_of steps may_make
   goes_element e w vw = record {
     next = w;
     pass = pass_of (in_list e);
@@ -172,7 +170,6 @@ module _ (i : ℕ) (d : List ℕ) (n : ℕ) where
     words = refl;
     valid = vw;
     deed_same = refl;
-    value_same = refl;
     one_more = refl;
   }
 

@@ -3,80 +3,69 @@
 // of the way a gap of as many words as there are marks to put in stands in the marks; it travels to the front, and no mark is moved twice.
 #![tactic(auto)]
 
+ghost use Rattle.std.specs.Prelude.{◌≡◌};
 ghost use Rattle.tables.specs.Wants.{search_of};
-ghost use Rattle.tables.specs.Holding.{four};
 ghost use Rattle.deeds.specs.Deeds.{may_make};
-ghost use Rattle.descend.specs.Doing.{Leads, Enters, Descends};
+ghost use Rattle.descend.specs.Doing.{side_by, Leads, Enters, Descends};
 
 use act::{finish, put_element};
 use deeds::{inserts_here, is_delete, may_make};
 use message::{Act, Deed};
 use readers::{Key, LONGEST};
 use steps::WithGap;
-use tables::{Counts, DEEPEST, MAP, Position, Search, next_row, search_of};
+use tables::{Counts, DEEPEST, Position, Search, Side, Tables, next_row, search_of};
 
-// The row that a key leads to, if there is one now.
-#[derive(Clone, Copy)]
-pub struct Child {
-    pub there: bool,
-    pub at: Position,
-    pub counts: Counts,
+// The branch that a key is of, by its third word.
+fn side_by(len: u64) -> Side
+    ensures { result ≡ side_by len }
+{
+    if len > LONGEST { Side::List } else { Side::Map }
 }
 
-// The row that is looked for, made if it isn't there and may be.
+// The place of the row that is looked for, made if it isn't there and may be, and the counts with it.
 fn lead(
-    heads: &mut [u64],
-    keys: &mut [u64],
+    t: &mut Tables,
     c: Counts,
     from: Position,
     w: Search,
     make: bool,
-) -> Child
-    ensures { Leads w make c from heads.old keys.old heads.new keys.new result }
+) -> Option<(Position, Counts)>
+    ensures { Leads w make c from t.old t.new result }
 {
-    let rows = c.rows;
-    let at = tables::find(heads, keys, rows, from, w);
-    let row = at.row;
-    if tables::is_at(heads, keys, rows, row, w) {
-        return Child {
-            there: true,
-            at,
-            counts: c,
-        };
+    let at = tables::find(t, c.rows, from, w);
+    if tables::is_at(t, c.rows, at.row, w) {
+        return Some((at, c));
     }
-    if make {
-        let k = w.key;
-        let counts = steps::open_row(heads, keys, c, row, w.depth, MAP, k.hi, k.lo, k.len);
-        return Child {
-            there: true,
-            at,
-            counts,
-        };
+    if !make {
+        return None;
     }
-    Child {
-        there: false,
-        at,
-        counts: c,
-    }
+    let counts = steps::open_row(
+        &mut t.heads,
+        &mut t.keys,
+        c,
+        at.row,
+        w.depth,
+        Side::Map,
+        w.key,
+    );
+    Some((at, counts))
 }
 
 // The row of a key of the way, among rows of depth n; `left` words of the way are left behind the key.
 fn reach(
-    heads: &mut [u64],
-    keys: &mut [u64],
+    t: &mut Tables,
     c: Counts,
     from: Position,
     n: u64,
     key: Key,
     left: usize,
     deed: Deed,
-) -> Child
-    ensures { Leads (search_of n key) (may_make key.len left deed) c from heads.old keys.old
-        heads.new keys.new result }
+) -> Option<(Position, Counts)>
+    ensures { Leads (search_of n key) (may_make key.len left deed) c from t.old t.new result }
 {
     let w = search_of(n, key);
     let make = may_make(key.len, left, deed);
-    lead(heads, keys, c, from, w, make)
+    lead(t, c, from, w, make)
 }
 
 // A place of depth n that the way goes on from: it is marked, unless the operation deletes, and its branch has its flag.
@@ -86,47 +75,33 @@ fn enter(
     c: Counts,
     s: Position,
     o: Act,
-    list: bool,
+    side: Side,
     gap: usize,
     n: usize,
 ) -> WithGap
-    ensures { Enters o list n s c gap heads.old marks.old result.counts result.gap heads.new
+    ensures { Enters o side n s c gap heads.old marks.old result.counts result.gap heads.new
         marks.new }
 {
     let row = s.row;
-    let deed = o.deed;
-    if is_delete(deed) {
-        steps::flag_row(heads, row, list);
+    if is_delete(o.deed) {
+        steps::flag_row(heads, row, side);
         return WithGap { counts: c, gap };
     }
     let e = steps::mark_row(heads, marks, c, s, o.id, gap, n);
-    steps::flag_row(heads, row, list);
+    steps::flag_row(heads, row, side);
     e
 }
 
 // Follows the way among the rows behind a place, whose children have depth n: to the row of its first key, and from there along the
 // remaining keys. Unless the operation deletes, the n - 1 marks of the places above are left to be put in: the gap for them stands.
-pub fn descend(
-    heads: &mut [u64],
-    keys: &mut [u64],
-    marks: &mut [u64],
-    values: &mut [u64],
-    c: Counts,
-    from: Position,
-    n: u64,
-    o: Act,
-    way: &[u64],
-) -> WithGap
+pub fn descend(t: &mut Tables, c: Counts, from: Position, n: u64, o: Act, way: &[u64]) -> WithGap
     ensures { Descends o n way.now from c
-        (four heads.old keys.old marks.old values.old) result.counts result.gap
-        (four heads.new keys.new marks.new values.new) }
+        t.old result.counts result.gap
+        t.new }
 {
     let left = way.len();
     let gap = c.marks;
-    if left < 3 {
-        return WithGap { counts: c, gap };
-    }
-    if n > DEEPEST {
+    if left < 3 || n > DEEPEST {
         return WithGap { counts: c, gap };
     }
     let key = Key {
@@ -134,32 +109,36 @@ pub fn descend(
         lo: way[1],
         len: way[2],
     };
-    let deed = o.deed;
-    if inserts_here(left, deed) {
-        return put_element(heads, keys, marks, values, c, from, n, key.hi, key.len, o);
+    if inserts_here(left, o.deed) {
+        return put_element(t, c, from, n, key, o);
     }
-    let x = reach(heads, keys, c, from, n, key, left - 3, deed);
-    if !x.there {
+    let Some((at, counts)) = reach(t, c, from, n, key, left - 3, o.deed) else {
         return WithGap { counts: c, gap };
-    }
-    let at = x.at;
-    let counts = x.counts;
+    };
     if left == 3 {
-        return finish(heads, marks, values, counts, at, o, n as usize);
+        return finish(
+            &mut t.heads,
+            &mut t.marks,
+            &mut t.values,
+            counts,
+            at,
+            o,
+            n as usize,
+        );
     }
     if left < 6 {
         return WithGap { counts, gap };
     }
-    let third = way[5];
-    let p = next_row(heads, at);
-    let e = descend(heads, keys, marks, values, counts, p, n + 1, o, &way[3..]);
+    let side = side_by(way[5]);
+    let p = next_row(&t.heads, at);
+    let e = descend(t, counts, p, n + 1, o, &way[3..]);
     enter(
-        heads,
-        marks,
+        &mut t.heads,
+        &mut t.marks,
         e.counts,
         at,
         o,
-        third > LONGEST,
+        side,
         e.gap,
         n as usize,
     )

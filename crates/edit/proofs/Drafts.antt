@@ -3,17 +3,15 @@
 use Prim.Native.Nat.{ℕ, suc, ◌+◌, ◌*◌, ◌-◌, ◌≤◌, ◌<◌}
 use native.Mathlib.Omega.{arith}
 use mathlib.Core.Path.{◌≡◌, refl, sym, ap, ◌∙◌, subst}
-use mathlib.Core.Bool.{Bool, true, false, cond, ◌||◌}
-use mathlib.Core.List.{List, [], ◌∷◌, ◌++◌}
-use lib.Dec.{eqb}
+use mathlib.Core.Bool.{false}
+use mathlib.Core.List.{List, [], ◌∷◌}
 use lib.ListN.{length, length-append}
 use borrow.Author.Tests.{ne_eqb}
 use Rattle.meaning.specs.Ids.{zeros}
-use Rattle.meaning.specs.Places.{Document}
 use Rattle.meaning.specs.Ways.{Way}
 use Rattle.meaning.specs.Valid.{ValidCounters, ValidEdit}
 use Rattle.meaning.specs.Members.{All}
-use Rattle.meaning.specs.Message.{message, edit_text}
+use Rattle.meaning.specs.Message.{edit_text}
 use Rattle.meaning.specs.Edit.{largest, spent, edit_of}
 use Rattle.meaning.specs.Receive.{Terminal}
 use Rattle.meaning.specs.declared.Counters.{Counters}
@@ -23,8 +21,8 @@ use Rattle.theorems.specs.Sizes.{message-short}
 use Rattle.lines.proofs.Texts.{message_text}
 use Rattle.lines.specs.Rows.{message_head}
 use Rattle.message.specs.Means.{MeansEdit, Means}
-use Rattle.message.specs.declared.EditRead.{EditRead}
-use Rattle.message.specs.declared.Operation as M
+use Rattle.message.specs.declared.Edit.{Edit}
+use Rattle.message.specs.declared.Operation as Held
 use Rattle.judging.proofs.Judged.{newer}
 use Rattle.edit.specs.Promises.{Forms, Drafts}
 
@@ -48,7 +46,7 @@ lines-short top w v =
     omega (arith, m, ap length (message_text o), length-append (message_head o.id o.deps) (edit_text top w))
 
 -- the operation is the edit's
-module _ (X : Terminal) (seen : Counters) (n device : ℕ) (e : EditRead) (op : M.Operation) (F : Forms seen n device e op)
+module _ (X : Terminal) (seen : Counters) (n device : ℕ) (e : Edit) (op : Held.Operation) (F : Forms seen n device e op)
     (same : seen.at ≡ X.document.seen) (valid : ValidCounters X.document.seen) (count : n ≡ largest seen.at)
     (few : n < 4294967295) (high : device ≤ 8) where
   counted : n ≡ largest X.document.seen
@@ -57,7 +55,7 @@ module _ (X : Terminal) (seen : Counters) (n device : ℕ) (e : EditRead) (op : 
   none_spent : spent X.document.seen ≡ false
   none_spent = unspent X.document.seen (omega (arith, counted, few))
 
-  pub drafts : (lines top : List ℕ) (w : Way) → ValidEdit top w → MeansEdit e.way e.deed e.words top w → lines ≡ edit_text top w
+  pub drafts : (lines top : List ℕ) (w : Way) → ValidEdit top w → MeansEdit e.way e.deed top w → lines ≡ edit_text top w
       → Drafts X op lines (edit_of X.document.seen device top w)
   unfolding edit_of
   drafts lines top w v m t =

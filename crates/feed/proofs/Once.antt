@@ -9,7 +9,6 @@ use mathlib.Core.List.{List, [], ◌∷◌}
 use lib.ListN.{take, drop}
 use Rattle.meaning.specs.Receive.{Terminal}
 use Rattle.theorems.specs.Determined.{receives_once}
-use Rattle.tables.specs.Words.{Tables}
 use Rattle.stream.specs.Pieces.{Piece, whole, too_long}
 use Rattle.stream.specs.Steps.{Cuts, rests, hands}
 use Rattle.stream.specs.Steps as Steps
@@ -17,9 +16,8 @@ use Rattle.stream.specs.declared.Cut.{Cut}
 use Rattle.stream.specs.declared.Step.TheVariants.{Message, TooLong, More}
 use Rattle.keeping.specs.Keeping.{Keeps}
 use Rattle.keeping.specs.Once.{keeps_once}
-use Rattle.keeping.specs.declared.State.{State}
+use Rattle.keeping.specs.declared.Memory.{Memory}
 use Rattle.feed.specs.Feeding.{Takes, none, receives, passes, Took, AllFed}
-use Rattle.feed.specs.declared.Fed.{Fed}
 
 -- Taking is a function of the terminal and the pieces.
 takes_once : {X Y Z : Terminal} (ps : List Piece) → Takes X ps Y → Takes X ps Z → Y ≡ Z
@@ -29,8 +27,7 @@ takes_once {X} {Y} {Z} (whole m ∷ ps) (receives {Y = M} a h p) (receives {Y = 
 takes_once (too_long ∷ ps) (passes p) (passes q) = takes_once ps p q
 
 -- So two memories that have taken the same pieces keep the same terminal.
-pub took_once : {X : Terminal} {ps : List Piece} {U W : Tables} {t t' : List ℕ} {s s' : State} (p : Took X ps U t s) (q : Took X ps W t' s')
-    → p.exit ≡ q.exit
+pub took_once : {X : Terminal} {ps : List Piece} {M N : Memory} (p : Took X ps M) (q : Took X ps N) → p.exit ≡ q.exit
 took_once {ps = ps} p q = takes_once ps p.takes q.takes
 
 more_once : {c d : Cut} → More c ≡ More d → c ≡ d
@@ -63,13 +60,12 @@ cuts_once {b} {last} (Steps.passes i p) e _ (Steps.passes {ps = qs} j q) =
     let k = cuts_once p e qs (subst (λ y. Cuts b last y qs e) (long_once (sym j ∙ i)) q) in
     (ap (λ l. too_long ∷ l) k.0, k.1)
 
--- Any two outcomes of feeding the same bytes to memory that keeps a terminal are equal: state and cut, and every word.
-pub take_in_once : {T U W : Tables} {t t' t'' : List ℕ} {s : State} {b : List ℕ} {c : Cut} {last : Bool} {r q : Fed} {X : Terminal}
-    → AllFed T t s b c last r U t' → AllFed T t s b c last q W t'' → Keeps T t s X → (r ≡ q) × (U ≡ W) × (t' ≡ t'')
-take_in_once {U = U} {t' = t'} {r = r} {X = X} f g K =
+-- Any two outcomes of feeding the same bytes to memory that keeps a terminal are equal: the cut, and every word.
+pub take_in_once : {M N P : Memory} {b : List ℕ} {c d e : Cut} {last : Bool} {X : Terminal} → AllFed M b c last d N → AllFed M b c last e P
+    → Keeps M X → (d ≡ e) × (N ≡ P)
+take_in_once {N = N} {X = X} f g K =
     let m = f.feeds.takes X K in
     let n = g.feeds.takes X K in
     let e = cuts_once f.cuts _ _ g.cuts in
     let x : m.exit ≡ n.exit = takes_once g.feeds.handed (subst (λ ps. Takes X ps m.exit) e.0 m.takes) n.takes in
-    let k = keeps_once (subst (Keeps U t' r.state) x m.keeps) n.keeps in
-    (λ i. record { state = k.2 i; cut = e.1 i }, k.0, k.1)
+    (e.1, keeps_once (subst (Keeps N) x m.keeps) n.keeps)

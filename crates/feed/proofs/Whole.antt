@@ -10,34 +10,31 @@ use lib.Dec.{ltb}
 use lib.ListN.{length, take, drop}
 use lib.Seq.{take-append_seam}
 use borrow.Author.Tests.{ltb-true, le-ltb}
+use Rattle.std.specs.Prelude.{Ok, Err}
 use Rattle.meaning.specs.Text.{over}
 use Rattle.meaning.specs.Receive.{Terminal, new_terminal}
 use Rattle.meaning.specs.Sheet.{sheet, save}
 use Rattle.meaning.specs.Stream.{messages}
 use Rattle.meaning.specs.Promises.{ReceivesAll, Saves}
-use Rattle.meaning.specs.declared.Receipt.TheVariants as R
-use Rattle.meaning.specs.declared.Saved.{Saved}
-use Rattle.meaning.specs.declared.Saved.TheVariants as S
+use Rattle.meaning.specs.declared.ReceiveError.TheVariants as R
+use Rattle.meaning.specs.Answers.{Saved}
 use Rattle.theorems.specs.Numbered.{saved_settled}
 use Rattle.theorems.specs.Sizes.{sheet-short}
-use Rattle.tables.specs.Words.{Tables}
 use Rattle.stream.specs.Pieces.{whole, too_long, judged, pieces, held, Moved, joined}
 use Rattle.stream.specs.declared.Cut.{Cut}
 use Rattle.stream.proofs.Runs.{long_refused}
 use Rattle.stream.proofs.Moving.{grown_held}
 use Rattle.keeping.specs.Keeping.{Keeps}
-use Rattle.keeping.specs.declared.State.{State}
+use Rattle.keeping.specs.declared.Memory.{Memory}
 use Rattle.feed.specs.Feeding.{Takes, none, receives, passes, Took, AllFed}
 use Rattle.feed.specs.Whole.{ReadsOn, FeedsAll, onward, ends, Unread, Merged, Prints}
-use Rattle.feed.specs.declared.Fed.{Fed}
 use Rattle.feed.proofs.Feeding.{takes_on}
 
 -- Behind the last bytes every piece is handed over.
-pub last-handed : {T U : Tables} {t t' : List ℕ} {s : State} {b : List ℕ} {c : Cut} {r : Fed} (f : AllFed T t s b c true r U t')
-    → f.feeds.handed ≡ pieces c.passing (held b c)
-last-handed {b = b} {c = c} {r = r} f =
+pub last-handed : {M N : Memory} {b : List ℕ} {c d : Cut} (f : AllFed M b c true d N) → f.feeds.handed ≡ pieces c.passing (held b c)
+last-handed {b = b} {c = c} {d = d} f =
     sym (append-nil _)
-    ∙ (ap (λ l. f.feeds.handed ++ l) (sym (f.rests.done refl) ∙ ap (pieces r.cut.passing) (sym (append-nil _)))
+    ∙ (ap (λ l. f.feeds.handed ++ l) (sym (f.rests.done refl) ∙ ap (pieces d.passing) (sym (append-nil _)))
     ∙ (sym (f.feeds.rest [] (λ e. refl)) ∙ ap (pieces c.passing) (append-nil _)))
 
 -- A chunk of n bytes is read behind the held ones, after these have been moved to the buffer's start.
@@ -57,15 +54,14 @@ reads_pieces {b} {b'} {c} {c'} {chunk} h more =
     ∙ ap (pieces c.passing) (ap (λ l. l ++ more) h.bytes ∙ append_assoc (held b c) chunk more)
 
 -- A run to the end takes the pieces of the stream.
-pub run_takes : {T U : Tables} {t t' : List ℕ} {s s' : State} {b : List ℕ} {c : Cut} {chunks : List (List ℕ)}
-    → FeedsAll T t s b c chunks true U t' s' → (X : Terminal) → Keeps T t s X
-    → Took X (pieces c.passing (held b c ++ joined chunks)) U t' s'
-run_takes (onward {chunk = chunk} {chunks = chunks} r h f g) X K =
+pub run_takes : {M N : Memory} {b : List ℕ} {c : Cut} {chunks : List (List ℕ)} → FeedsAll M b c chunks true N → (X : Terminal) → Keeps M X
+    → Took X (pieces c.passing (held b c ++ joined chunks)) N
+run_takes (onward {chunk = chunk} {chunks = chunks} d h f g) X K =
     let m = f.feeds.takes X K in
     let n = run_takes g m.exit m.keeps in
     let e = sym (f.feeds.rest (joined chunks) (λ e. absurd (true≢false (sym e)))) ∙ reads_pieces h (joined chunks) in
     record { exit = n.exit; takes = subst (λ ps. Takes X ps n.exit) e (takes_on m.takes n.takes); keeps = n.keeps }
-run_takes (ends {b' = b'} {c' = c'} r h f) X K =
+run_takes (ends {b' = b'} {c' = c'} d h f) X K =
     let m = f.feeds.takes X K in
     let e = last-handed f ∙ (ap (pieces c'.passing) (sym (append-nil (held b' c'))) ∙ reads_pieces h []) in
     record { exit = m.exit; takes = subst (λ ps. Takes X ps m.exit) e m.takes; keeps = m.keeps }
@@ -77,12 +73,12 @@ takes_receives (m ∷ ms) X Z h = go (ltb 463 (length m)) refl (λ Y r. takes_re
   where
     go : (b : Bool) → ltb 463 (length m) ≡ b → ((Y : Terminal) → Takes Y (map judged ms) Z → ReceivesAll Y ms Z)
         → Takes X (cond b too_long (whole m) ∷ map judged ms) Z → ReceivesAll X (m ∷ ms) Z
-    go true e f (passes r) = (R.Layout, X, long_refused X m (ltb-true 463 (length m) e), f X r)
+    go true e f (passes r) = (Err R.Layout, X, long_refused X m (ltb-true 463 (length m) e), f X r)
     go false e f (receives {Y = Y} a k r) = (a, Y, k, f Y r)
 
 -- From an empty buffer and memory that keeps a new terminal.
-pub run_merges : {T U : Tables} {t t' : List ℕ} {s s' : State} {b : List ℕ} {c : Cut} {chunks : List (List ℕ)}
-    → Unread c → Keeps T t s new_terminal → FeedsAll T t s b c chunks true U t' s' → Merged (joined chunks) U t' s'
+pub run_merges : {M N : Memory} {b : List ℕ} {c : Cut} {chunks : List (List ℕ)} → Unread c → Keeps M new_terminal
+    → FeedsAll M b c chunks true N → Merged (joined chunks) N
 unfolding pieces
 run_merges {b = b} {c = c} {chunks = chunks} u K r =
     let m = run_takes r new_terminal K in
@@ -94,7 +90,7 @@ run_merges {b = b} {c = c} {chunks = chunks} u K r =
     record { exit = m.exit; receives = takes_receives (messages (joined chunks)) new_terminal m.exit h; keeps = m.keeps }
 
 -- What is saved of it into a buffer of 65,536 bytes or more is what `merge` prints.
-pub merged_prints : {input : List ℕ} {U : Tables} {t : List ℕ} {s : State} (m : Merged input U t s) {before after : List ℕ} {answer : Saved}
+pub merged_prints : {input : List ℕ} {N : Memory} (m : Merged input N) {before after : List ℕ} {answer : Saved}
     → 65536 ≤ length before → Saves m.exit.document before answer after → Prints input answer after
 unfolding save over
 merged_prints m {before} {after} {answer} l h =
@@ -102,7 +98,7 @@ merged_prints m {before} {after} {answer} l h =
     let k : length (sheet D) ≤ length before = omega (arith, sheet-short D m.keeps.document.sound m.keeps.document.limits) in
     record {
       written = length (sheet D);
-      answers = saved_settled answer (S.Written (length (sheet D))) (rw (le-ltb (length before) (length (sheet D)) k) at h.answers);
+      answers = saved_settled answer (Ok (length (sheet D))) (rw (le-ltb (length before) (length (sheet D)) k) at h.answers);
       merges = record {
         exit = m.exit;
         receives = m.receives;

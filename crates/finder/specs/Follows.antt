@@ -1,7 +1,7 @@
 -- Document 01, "Reads": a place is looked for along a read's way. The promise says: if the tables hold a document's rows, the answer is
 -- that of the document, and the place that is present stands where it is said to.
 -- Assumes nothing: these are definitions.
-use Rattle.std.specs.Prelude.{ℕ, suc, ◌+◌, ◌≤◌, ◌≡◌, List, ◌++◌}
+use Rattle.std.specs.Prelude.{ℕ, suc, ◌+◌, ◌≤◌, ◌≡◌, List, ◌++◌, Result, Ok, Err}
 use Rattle.meaning.specs.Places.{Place, Document}
 use Rattle.meaning.specs.Read.{Trail, trail_steps, ValidTrail, PlaceWay, ValidPlaceWay, Sought, missing, without_marks, present}
 use Rattle.meaning.specs.Read.{entered, follow, seek}
@@ -17,8 +17,12 @@ use Rattle.tables.specs.Standing.{behind}
 use Rattle.tables.specs.Holding.{Holds, four}
 use Rattle.tables.specs.declared.Counts.{Counts}
 use Rattle.tables.specs.declared.Position.{Position}
-use Rattle.finder.specs.declared.Followed.{Followed}
-use Rattle.finder.specs.declared.Followed.TheVariants as F
+use Rattle.finder.specs.declared.Absence.{Absence}
+use Rattle.finder.specs.declared.Absence.TheVariants as F
+
+-- where a way leads: the last place on it stands here, or why it is absent
+abbrev pub Followed : Type 0
+Followed = Result Position Absence
 
 -- the place that is present is of depth n, and stands here
 pub record StandsHere (rs : List Row) (n : ℕ) (at : Position) (s : Sought) : Type 0 where
@@ -31,9 +35,9 @@ pub record StandsHere (rs : List Row) (n : ℕ) (at : Position) (s : Sought) : T
 
 -- among the rows rs, the way leads to this
 abbrev pub Leads : List Row → ℕ → Followed → Sought → Type 0
-Leads rs n F.Missing s = s ≡ missing
-Leads rs n F.WithoutMarks s = s ≡ without_marks
-Leads rs n (F.Standing at) s = StandsHere rs n at s
+Leads rs n (Err F.Missing) s = s ≡ missing
+Leads rs n (Err F.WithoutMarks) s = s ≡ without_marks
+Leads rs n (Ok at) s = StandsHere rs n at s
 
 abbrev pub Follows : List ℕ → List ℕ → ℕ → List ℕ → Followed → Type 0
 Follows h k rows words r =

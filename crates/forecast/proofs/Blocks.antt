@@ -1,10 +1,10 @@
 -- The place behind a row, its depth, and what goes of a block.
 -- Assumes nothing.
-use Prim.Native.Nat.{ℕ, ◌+◌, ◌≤◌}
+use Prim.Native.Nat.{ℕ, ◌+◌}
 use native.Mathlib.Omega.{arith}
 use mathlib.Core.Path.{◌≡◌, refl, sym, ap, ◌∙◌, subst}
 use mathlib.Core.List.{List, [], ◌∷◌, ◌++◌, append_assoc}
-use lib.ListN.{length, get_or}
+use lib.ListN.{get_or}
 use Rattle.meaning.specs.Sheet.{Row}
 use Rattle.rows.specs.Blocks.{passed, deeper}
 use Rattle.tables.specs.Words.{depth_in}

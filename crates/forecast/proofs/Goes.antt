@@ -175,14 +175,6 @@ module _ (heads marks values : List ℕ) (rows : ℕ) (from : Position) (n : ℕ
         ended keys c front [] q h e = passed_nil n
         ended keys c front (r ∷ back) q h e = absurd (omega (arith, (here _ c at front r back h e).live))
 
-    pub going_out : length heads ≤ at.row → UnderGone heads marks values rows from n d sum
-    going_out l = going_done (λ keys c front back q h e. ended keys c front back q h e)
-      where
-        ended : (keys : List ℕ) (c : Counts) (front back : List Row) → rows ≡ c.rows
-            → Holds (four heads keys marks values) c (front ++ back) → at ≡ behind front → passed (deeper n) back ≡ []
-        ended keys c front [] q h e = passed_nil n
-        ended keys c front (r ∷ back) q h e = absurd (omega (arith, (here _ c at front r back h e).row))
-
     pub going_stop : (head : Head) → head ≡ head_in (get_or heads at.row 0) → head.depth ≤ n → UnderGone heads marks values rows from n d sum
     going_stop head f l = going_done (λ keys c front back q h e. ended keys c front back q h e)
       where

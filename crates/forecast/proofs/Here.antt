@@ -10,7 +10,8 @@ use Rattle.meaning.specs.Load.{marks_in, values_in}
 use Rattle.meaning.specs.Sheet.{Row}
 use Rattle.theorems.specs.Accepting.{marks_append, values-append}
 use Rattle.words.specs.Words.{run}
-use Rattle.tables.specs.Words.{head_word, each_value, heads_of, marks_of, values_of, depth_in, marks_at, values_at, Tables}
+use Rattle.tables.specs.Words.{head_word, each_value, heads_of, marks_of, values_of, depth_in, marks_at, values_at}
+use Rattle.tables.specs.declared.Tables.{Tables}
 use Rattle.tables.specs.Finds.{Narrow, AllNarrow, depth_in_lem, marks_in_lem, values_in_lem}
 use Rattle.tables.specs.Standing.{behind, heads-length}
 use Rattle.tables.specs.Holding.{values_room, Holds}

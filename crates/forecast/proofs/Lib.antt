@@ -6,4 +6,3 @@ pub mod Looks
 pub mod Weights
 pub mod Ways
 pub mod Steps
-pub mod Deeds

@@ -4,7 +4,7 @@ use Prim.Native.Nat.{ℕ, suc, ◌+◌, ◌-◌, ◌≤◌, ◌<◌}
 use native.Mathlib.Omega.{arith}
 use native.Mathlib.Numerals.{add-one}
 use mathlib.Core.Path.{◌≡◌, refl, sym, ap, ◌∙◌, subst}
-use mathlib.Core.Bool.{Bool, true, cond}
+use mathlib.Core.Bool.{Bool, true}
 use mathlib.Core.List.{List, [], ◌∷◌, ◌++◌, append_assoc, append-nil}
 use lib.Dec.{eqb}
 use lib.ListN.{length, get_or, take, drop, length-drop}
@@ -14,28 +14,28 @@ use Rattle.meaning.specs.Valid.{ValidWay}
 use Rattle.meaning.specs.Ways.{Prev, head, after, Way, assign, delete, insert, into_map, into_list, steps, makes}
 use Rattle.meaning.specs.Sheet.{Spot, in_map, in_list, Row}
 use Rattle.rows.specs.Blocks.{passed, rest, deeper}
-use Rattle.rows.specs.Locate.{Located, nowhere, here, under_of, elements_found_rows}
+use Rattle.rows.specs.Locate.{Located, nowhere, here, under_of, is_located, elements_found_rows}
 use Rattle.rows.specs.Balanced.{passed-rest}
 use Rattle.rows.specs.Within.{under_change, GoesOn, shallow_rest, change-within, found_within}
-use Rattle.message.specs.Means.{way_words, prev_words}
+use Rattle.message.specs.Means.{way_words, prev_words, deed_of}
 use Rattle.tables.specs.Words.{spot_words}
 use Rattle.tables.specs.Finds.{GoodSpot}
 use Rattle.readers.specs.Hex.{words_in}
 use Rattle.tables.specs.Heads.{key_in}
 use Rattle.tables.specs.Wants.{pass_of, meant_of, spot_agrees, spot_tells}
-use Rattle.tables.specs.Standing.{behind}
 use Rattle.tables.specs.Holding.{Holds, four}
 use Rattle.tables.specs.Seek.{Passes}
 use Rattle.tables.specs.Stands.{passes}
 use Rattle.tables.specs.declared.Counts.{Counts}
 use Rattle.tables.specs.declared.Position.{Position}
-use Rattle.finder.specs.declared.Sight.{Sight}
+use Rattle.message.specs.declared.Deed.{Deed}
+use Rattle.std.specs.Prelude.{Option, None, Some, is_some}
+use Rattle.std.specs.Option.{MatchOption, IsSomeAnd}
 use Rattle.forecast.specs.declared.Weight.{Weight}
-use Rattle.finder.specs.Looks.{Sees, missing, standing, Looks}
-use Rattle.forecast.specs.Weighs.{or_new, way_number, Weighs, nothing_weighed, marked, carried, WayWeighed}
-use Rattle.forecast.proofs.Looks.{false_true}
-use Rattle.forecast.proofs.Weights.{carried_places, carried_marks, marked_marks, marked_places, mark-is}
-use Rattle.forecast.proofs.Ways.{into, locate_at, sees_there, carry_into}
+use Rattle.finder.specs.Looks.{Sees, missing, standing, hanging, HangsBehind, Looks}
+use Rattle.forecast.specs.Weighs.{or_new, Counted, Weighs, Few, nothing_weighed, marked, carried, WayWeighed}
+use Rattle.forecast.proofs.Weights.{carried_few, marked_marks, marked_places, mark-is}
+use Rattle.forecast.proofs.Ways.{into, locate_at, sees_there, carry_into, lost_into}
 
 -- A way that goes on has a key.
 
@@ -76,38 +76,34 @@ goes_makes (into_list e w) g = refl
 goes_makes (assign _) g = elim g [ ]
 goes_makes delete g = elim g [ ]
 
-module _ (h k m v : List ℕ) (rows : ℕ) (from : Position) (n : ℕ) (parent-known : Bool) (d : List ℕ) (deed : ℕ) (way : List ℕ) where
+module _ (h k m v : List ℕ) (rows : ℕ) (from : Option Position) (n : ℕ) (d : List ℕ) (deed : Deed) (way : List ℕ) where
   -- it ends here
   pub ends_weighed : ((w : Way) → GoesOn w → way ≡ way_words w → n + steps w ≤ 9 → ⊥)
-      → WayWeighed h k m v rows from n parent-known d deed way (nothing_weighed true)
+      → WayWeighed h k m v rows from n d deed way (Some nothing_weighed)
   unfolding elements_found_rows under_change
-  ends_weighed never = record {
-    few_places = omega arith;
-    few_marks = omega arith;
-    is = λ c A B w H q f e g ok N. all w B e N;
-  }
+  ends_weighed never = record { few = (omega arith, omega arith); is = λ c A B w H q f e g ok N. all w (hanging from B) e N }
     where
-      all : (w : Way) (B : List Row) → way ≡ way_words w → n + steps w ≤ 9
-          → Weighs (elements_found_rows d n w (cond parent-known B [])) (under_change d n w (cond parent-known B [])) (nothing_weighed true)
-      all (assign a) B e N =
-          record { found_is = refl; places = refl; marks = refl; values = refl; gone_marks = refl; gone-values = refl }
-      all delete B e N =
-          record { found_is = refl; places = refl; marks = refl; values = refl; gone_marks = refl; gone-values = refl }
-      all (insert p a) B e N = absurd (never (insert p a) tt e N)
-      all (into_map t w) B e N = absurd (never (into_map t w) tt e N)
-      all (into_list i w) B e N = absurd (never (into_list i w) tt e N)
+      all : (w : Way) (us : List Row) → way ≡ way_words w → n + steps w ≤ 9
+          → Weighs (elements_found_rows d n w us) (under_change d n w us) (Some nothing_weighed)
+      all (assign a) us e N =
+          (refl, record { places = refl; marks = refl; values = refl; gone_marks = refl; gone-values = refl })
+      all delete us e N =
+          (refl, record { places = refl; marks = refl; values = refl; gone_marks = refl; gone-values = refl })
+      all (insert p a) us e N = absurd (never (insert p a) tt e N)
+      all (into_map t w) us e N = absurd (never (into_map t w) tt e N)
+      all (into_list i w) us e N = absurd (never (into_list i w) tt e N)
 
-  pub short_weighed : length way < 3 → WayWeighed h k m v rows from n parent-known d deed way (nothing_weighed true)
+  pub short_weighed : length way < 3 → WayWeighed h k m v rows from n d deed way (Some nothing_weighed)
   short_weighed l = ends_weighed (λ w g e N. omega (arith, three_words w g, ap length e))
 
-  pub deep_weighed : 8 < n → WayWeighed h k m v rows from n parent-known d deed way (nothing_weighed true)
+  pub deep_weighed : 8 < n → WayWeighed h k m v rows from n d deed way (Some nothing_weighed)
   deep_weighed l = ends_weighed (λ w g e N. omega (arith, one-step w g))
 
   -- its last key
-  pub last_weighed : length way ≡ 3 → (x : Weight)
-      → WayWeighed h k m v rows from n parent-known d deed (get_or way 0 0 ∷ get_or way 1 0 ∷ get_or way 2 0 ∷ []) x
-      → WayWeighed h k m v rows from n parent-known d deed way x
-  last_weighed l x W = subst (λ way. WayWeighed h k m v rows from n parent-known d deed way x) (go way l) W
+  pub last_weighed : length way ≡ 3 → (x : Option Weight)
+      → WayWeighed h k m v rows from n d deed (get_or way 0 0 ∷ get_or way 1 0 ∷ get_or way 2 0 ∷ []) x
+      → WayWeighed h k m v rows from n d deed way x
+  last_weighed l x W = subst (λ way. WayWeighed h k m v rows from n d deed way x) (go way l) W
     where
       go : (l : List ℕ) → length l ≡ 3 → get_or l 0 0 ∷ get_or l 1 0 ∷ get_or l 2 0 ∷ [] ≡ l
       go [] e = absurd (omega arith)
@@ -118,12 +114,21 @@ module _ (h k m v : List ℕ) (rows : ℕ) (from : Position) (n : ℕ) (parent-k
 
 -- It goes on.
 
+-- the place behind the row of a place, if that is there
+abbrev pub PassesTo : List ℕ → Option Position → Option Position → Type 0
+PassesTo heads s next = MatchOption s (next ≡ None) (λ at. IsSomeAnd next (λ r. Passes heads at r))
+
+behind_it : (heads : List ℕ) (at : Position) (next : Option Position) → PassesTo heads (Some at) next
+    → (r : Position) × (next ≡ Some r) × Passes heads at r
+behind_it heads at None p = absurd p
+behind_it heads at (Some r) p = (r, refl, p)
+
 or_new_lem : (n : ℕ) (p : Spot) (l : Located) → (or_new n p l).under ≡ under_of l
 or_new_lem n p nowhere = refl
 or_new_lem n p (here b) = refl
 
 -- what is weighed behind the row that was found is what is weighed under it
-module _ (d : List ℕ) (n : ℕ) (w : Way) (x : Weight) where
+module _ (d : List ℕ) (n : ℕ) (w : Way) (x : Option Weight) where
   within : (R : List Row) → Weighs (elements_found_rows d (suc n) w R) (under_change d (suc n) w R) x
       → Weighs (elements_found_rows d (suc n) w (passed (deeper n) R)) (under_change d (suc n) w (passed (deeper n) R)) x
   within R W =
@@ -134,74 +139,77 @@ module _ (d : List ℕ) (n : ℕ) (w : Way) (x : Weight) where
       let b = ap (under_change d (suc n) w) e ∙ change-within n (rest (deeper n) R) s d w us in
       subst (λ t. Weighs t (under_change d (suc n) w us) x) a (subst (λ c. Weighs (elements_found_rows d (suc n) w R) c x) b W)
 
-module _ (h k m v : List ℕ) (rows : ℕ) (n : ℕ) (d : List ℕ) (deed : ℕ) (words : List ℕ) (s : Sight) (next : Position) (x : Weight)
-    (past : Passes h s.at next) (under : WayWeighed h k m v rows next (n + 1) s.there d deed words x) where
+module _ (h k m v : List ℕ) (rows : ℕ) (n : ℕ) (d : List ℕ) (deed : Deed) (words : List ℕ) (s next : Option Position) (x : Option Weight)
+    (past : PassesTo h s next) (under : WayWeighed h k m v rows next (n + 1) d deed words x) where
   below : (c : Counts) (rs : List Row) (w : Way) (l : Located) → Holds (four h k m v) c rs → rows ≡ c.rows → Sees rs n s l
-      → words ≡ way_words w → deed ≡ way_number w → ValidWay w → n + suc (steps w) ≤ 9
+      → words ≡ way_words w → deed ≡ deed_of w → ValidWay w → n + suc (steps w) ≤ 9
       → Weighs (elements_found_rows d (suc n) w (under_of l)) (under_change d (suc n) w (under_of l)) x
   below c rs w l H q (missing f y) e g ok N =
-      let a = under.is c rs [] w (subst (Holds (four h k m v) c) (sym (append-nil rs)) H) q (λ t. absurd (false_true s.there f t)) e g
-      ok (omega arith) in
-      let b = subst (λ t. Weighs (elements_found_rows d (n + 1) w (cond t [] [])) (under_change d (n + 1) w (cond t [] [])) x) f a in
-      let z = subst (λ i. Weighs (elements_found_rows d i w []) (under_change d i w []) x) (add-one n) b in
+      let none : next ≡ None = subst (λ s. PassesTo h s next) f past in
+      let U = subst (λ i. WayWeighed h k m v rows i (n + 1) d deed words x) none under in
+      let a = U.is c rs [] w (subst (Holds (four h k m v) c) (sym (append-nil rs)) H) q tt e g ok (omega arith) in
+      let z = subst (λ i. Weighs (elements_found_rows d i w []) (under_change d i w []) x) (add-one n) a in
       subst (λ l. Weighs (elements_found_rows d (suc n) w (under_of l)) (under_change d (suc n) w (under_of l)) x) (sym y) z
-  below c rs w l H q (standing F r R t y b i j) e g ok N =
+  below c rs w l H q (standing at F r R t y b i j) e g ok N =
       let K = subst (Holds (four h k m v) c) y H in
       let K' = subst (Holds (four h k m v) c) (sym (append_assoc F (r ∷ []) R)) K in
-      let a = under.is c (F ++ r ∷ []) R w K' q (λ o. passes h k m v c F R r K s.at next past b) e g ok (omega arith) in
-      let a' = subst (λ t. Weighs (elements_found_rows d (n + 1) w (cond t R [])) (under_change d (n + 1) w (cond t R [])) x) t a in
-      let z = subst (λ i. Weighs (elements_found_rows d i w R) (under_change d i w R) x) (add-one n) a' in
+      let P = behind_it h at next (subst (λ s. PassesTo h s next) t past) in
+      let U = subst (λ i. WayWeighed h k m v rows i (n + 1) d deed words x) P.1 under in
+      let a = U.is c (F ++ r ∷ []) R w K' q (passes h k m v c F R r K at P.0 P.2 b) e g ok (omega arith) in
+      let z = subst (λ i. Weighs (elements_found_rows d i w R) (under_change d i w R) x) (add-one n) a in
       subst (λ l. Weighs (elements_found_rows d (suc n) w (under_of l)) (under_change d (suc n) w (under_of l)) x) (sym j) (within d n w x R z)
 
-module _ (h k m v : List ℕ) (rows : ℕ) (from : Position) (n : ℕ) (parent-known : Bool) (d : List ℕ) (deed : ℕ) (way : List ℕ) (s : Sight) (next : Position)
-    (x : Weight) where
-  step_weighed : 3 ≤ length way → (length way ≡ 3 → ⊥)
-      → Looks h k rows from n parent-known (key_in way) s → Passes h s.at next
-      → WayWeighed h k m v rows next (n + 1) s.there d deed (drop 3 way) x
-      → WayWeighed h k m v rows from n parent-known d deed way
-      (carried (marked x deed) s.there (eqb (get_or way 2 0) 17) (covered d (get_or way 0 0)) true)
-  unfolding way_words way_number steps
-  step_weighed long more look past under = record {
-    few_places =
-        omega (
-          arith,
-          carried_places U s.there (eqb (get_or way 2 0) 17) (covered d (get_or way 0 0)) true,
-          marked_places x deed,
-          under.few_places,
-          length-drop 3 way,
-        );
-    few_marks = omega (
-      arith,
-      carried_marks U s.there (eqb (get_or way 2 0) 17) (covered d (get_or way 0 0)) true,
-      marked_marks x deed,
-      under.few_marks,
-      length-drop 3 way,
-    );
+-- what is weighed on the way, by what is weighed under it
+abbrev pub stepped : Option Weight → Bool → Bool → Bool → Deed → Option Weight
+stepped None there list covers deed = None
+stepped (Some u) there list covers deed = carried (marked u deed) there list covers true
+
+module _ (h k m v : List ℕ) (rows : ℕ) (from : Option Position) (n : ℕ) (d : List ℕ) (deed : Deed) (way : List ℕ)
+    (s next : Option Position) where
+  step_weighed : (x : Option Weight) → 3 ≤ length way → (length way ≡ 3 → ⊥)
+      → Looks h k rows from n (key_in way) s → PassesTo h s next → WayWeighed h k m v rows next (n + 1) d deed (drop 3 way) x
+      → WayWeighed h k m v rows from n d deed way (stepped x (is_some s) (eqb (get_or way 2 0) 17) (covered d (get_or way 0 0)) deed)
+  unfolding way_words deed_of steps
+  step_weighed x long more look past under = record {
+    few = few x under.few;
     is = λ c A B w H q f e g ok N. all c A B w H q f e g ok N;
   }
     where
-      U : Weight
-      U = marked x deed
+      X : Option Weight → Option Weight
+      X x = stepped x (is_some s) (eqb (get_or way 2 0) 17) (covered d (get_or way 0 0)) deed
 
-      go : (c : Counts) (A B : List Row) (p : Spot) (w : Way) → Holds (four h k m v) c (A ++ B) → rows ≡ c.rows
-          → (parent-known ≡ true → from ≡ behind A) → words_in (key_in way) ≡ spot_words p → drop 3 way ≡ way_words w → deed ≡ way_number w
+      few : (x : Option Weight) → Few (length (drop 3 way)) x → Few (length way) (X x)
+      few None l = tt
+      few (Some u) l =
+          carried_few (marked u deed) (length way) (is_some s) (eqb (get_or way 2 0) 17) (covered d (get_or way 0 0)) true
+          (omega (arith, l.0, long, marked_places u deed, length-drop 3 way)) (omega (arith, l.1, long, marked_marks u deed, length-drop 3 way))
+
+      into_weighed : (p : Spot) (w : Way) (us : List Row) → words_in (key_in way) ≡ spot_words p → GoodSpot p → GoesOn w → deed ≡ deed_of w
+          → is_some s ≡ is_located (locate_at n p us) → (x : Option Weight)
+          → Weighs (elements_found_rows d (suc n) w (under_of (locate_at n p us))) (under_change d (suc n) w (under_of (locate_at n p us))) x
+          → Weighs (elements_found_rows d n (into p w) us) (under_change d n (into p w) us) (X x)
+      into_weighed p w us e good on g t None W = lost_into d n w us p W
+      into_weighed p w us e good on g t (Some u) W =
+          let L = locate_at n p us in
+          let C = subst (λ us. Counted (under_change d (suc n) w us) u) (sym (or_new_lem n p L)) W.1 in
+          carry_into d n w us (marked u deed) (is_some s) true (key_in way) p e good t (goes_makes w on)
+          (W.0, mark-is d n w (or_new n p L) u deed on g C)
+
+      go : (c : Counts) (A B : List Row) (p : Spot) (w : Way) → Holds (four h k m v) c (A ++ B) → rows ≡ c.rows → HangsBehind from A
+          → words_in (key_in way) ≡ spot_words p → drop 3 way ≡ way_words w → deed ≡ deed_of w
           → GoodSpot p → ValidWay w → n + suc (steps w) ≤ 9
-          → Weighs (elements_found_rows d n (into p w) (cond parent-known B [])) (under_change d n (into p w) (cond parent-known B []))
-          (carried U s.there (eqb (get_or way 2 0) 17) (covered d (get_or way 0 0)) true)
+          → Weighs (elements_found_rows d n (into p w) (hanging from B)) (under_change d n (into p w) (hanging from B)) (X x)
       go c A B p w H q f e t g good ok N =
-          let rs = cond parent-known B [] in
-          let L = locate_at n p rs in
+          let us = hanging from B in
+          let L = locate_at n p us in
           let S = look m v c A B (pass_of p) (meant_of p) H q f (spot_agrees n (key_in way) p e good) (spot_tells n (key_in way) p e good) in
           let on = goes_on w (λ z. more (omega (arith, long, length-drop 3 way, ap length (t ∙ z)))) in
-          let W = below h k m v rows n d deed (drop 3 way) s next x past under c (A ++ B) w L H q S t g ok N in
-          let W' = subst (λ us. Weighs (elements_found_rows d (suc n) w (under_of L)) (under_change d (suc n) w us) x) (sym (or_new_lem n p L)) W in
-          carry_into d n w rs U s.there true (key_in way) p e good (sees_there (A ++ B) n s L S) (goes_makes w on)
-          (mark-is d n w (or_new n p L) (elements_found_rows d (suc n) w (under_of L)) x deed on g W')
+          into_weighed p w us e good on g (sees_there (A ++ B) n s L S) x
+          (below h k m v rows n d deed (drop 3 way) s next x past under c (A ++ B) w L H q S t g ok N)
 
-      all : (c : Counts) (A B : List Row) (w : Way) → Holds (four h k m v) c (A ++ B) → rows ≡ c.rows
-          → (parent-known ≡ true → from ≡ behind A) → way ≡ way_words w → deed ≡ way_number w → ValidWay w → n + steps w ≤ 9
-          → Weighs (elements_found_rows d n w (cond parent-known B [])) (under_change d n w (cond parent-known B []))
-          (carried U s.there (eqb (get_or way 2 0) 17) (covered d (get_or way 0 0)) true)
+      all : (c : Counts) (A B : List Row) (w : Way) → Holds (four h k m v) c (A ++ B) → rows ≡ c.rows → HangsBehind from A
+          → way ≡ way_words w → deed ≡ deed_of w → ValidWay w → n + steps w ≤ 9
+          → Weighs (elements_found_rows d n w (hanging from B)) (under_change d n w (hanging from B)) (X x)
       all c A B (assign a) H q f e g ok N = absurd (omega (arith, long, ap length e))
       all c A B delete H q f e g ok N = absurd (omega (arith, long, ap length e))
       all c A B (insert p a) H q f e g ok N = absurd (more (ap length e ∙ prev_three p))
@@ -211,15 +219,25 @@ module _ (h k m v : List ℕ) (rows : ℕ) (from : Position) (n : ℕ) (parent-k
           go c A B (in_list i) w H q f (ap (λ l. get_or l 0 0 ∷ get_or l 1 0 ∷ get_or l 2 0 ∷ []) e) (ap (drop 3) e) g tt ok.1 N
 
   -- the same as the code has it: the rest of the way is a part of it, and each step has its result
-  pub part_weighed : (u y : Weight) (covers : Bool) → 3 ≤ length way → (length way ≡ 3 → ⊥)
-      → Looks h k rows from n parent-known (key_in way) s → Passes h s.at next
-      → WayWeighed h k m v rows next (n + 1) s.there d deed (take (length way - 3) (drop 3 way)) x
-      → u ≡ marked x deed → covers ≡ covered d (get_or way 0 0) → y ≡ carried u s.there (eqb (get_or way 2 0) 17) covers true
-      → WayWeighed h k m v rows from n parent-known d deed way y
-  part_weighed u y covers long more look past under a b e =
-      let whole = take_all (length way - 3) (drop 3 way) (omega (arith, length-drop 3 way)) in
-      let z = subst (λ l. WayWeighed h k m v rows next (n + 1) s.there d deed l x) whole under in
-      subst (WayWeighed h k m v rows from n parent-known d deed way)
-      (sym (e ∙ (ap (λ u. carried u s.there (eqb (get_or way 2 0) 17) covers true) a
-      ∙ ap (λ t. carried (marked x deed) s.there (eqb (get_or way 2 0) 17) t true) b)))
-      (step_weighed long more look past z)
+  module _ (x : Option Weight) (long : 3 ≤ length way) (more : length way ≡ 3 → ⊥) (look : Looks h k rows from n (key_in way) s)
+      (past : PassesTo h s next) (under : WayWeighed h k m v rows next (n + 1) d deed (take (length way - 3) (drop 3 way)) x) where
+    whole : WayWeighed h k m v rows from n d deed way (stepped x (is_some s) (eqb (get_or way 2 0) 17) (covered d (get_or way 0 0)) deed)
+    whole =
+        let all = take_all (length way - 3) (drop 3 way) (omega (arith, length-drop 3 way)) in
+        step_weighed x long more look past (subst (λ l. WayWeighed h k m v rows next (n + 1) d deed l x) all under)
+
+    pub part_lost : (y : Option Weight) → x ≡ None → y ≡ None → WayWeighed h k m v rows from n d deed way y
+    part_lost y a e =
+        rw e (subst (λ x. WayWeighed h k m v rows from n d deed way (stepped x (is_some s) (eqb (get_or way 2 0) 17)
+        (covered d (get_or way 0 0)) deed)) a whole)
+
+    pub part_weighed : (u z : Weight) (there covers : Bool) (y : Option Weight) → x ≡ Some u → z ≡ marked u deed → there ≡ is_some s
+        → covers ≡ covered d (get_or way 0 0) → y ≡ carried z there (eqb (get_or way 2 0) 17) covers true
+        → WayWeighed h k m v rows from n d deed way y
+    part_weighed u z there covers y a f b g e =
+        rw (e, f, b, g) (subst (λ x. WayWeighed h k m v rows from n d deed way (stepped x (is_some s) (eqb (get_or way 2 0) 17)
+        (covered d (get_or way 0 0)) deed)) a whole)
+
+-- few places come
+pub few_places : (n : ℕ) (x : Option Weight) (u : Weight) → x ≡ Some u → Few n x → u.places ≤ n
+few_places n x u e l = (subst (Few n) e l).0

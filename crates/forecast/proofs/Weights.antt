@@ -3,28 +3,29 @@
 use Prim.Native.Nat.{ℕ, suc, ◌+◌, ◌≤◌}
 use native.Mathlib.Omega.{arith}
 use mathlib.Core.Path.{◌≡◌, refl, sym, ap, ◌∙◌, subst}
-use mathlib.Core.Bool.{Bool, true, false, cond, ◌&&◌}
+use mathlib.Core.Bool.{Bool, true, false, cond, ◌&&◌, true≢false, false≢true}
+use lib.IntN.{pos, negsuc}
+use Rattle.std.specs.Prelude.{Option, None, Some}
+use Rattle.meaning.specs.Places.{null, bool, integer, string}
 use mathlib.Core.List.{List, []}
-use lib.Dec.{eqb}
 use lib.ListN.{length}
 use Rattle.meaning.specs.Ids.{covered}
 use Rattle.meaning.specs.Ways.{Assigned, plain, empty_map, empty_list, Prev, head, after}
 use Rattle.meaning.specs.Ways.{Way, assign, delete, insert, into_map, into_list, deletes, makes}
-use Rattle.meaning.specs.Sheet.{Spot, Row}
-use Rattle.rows.specs.Blocks.{Block, join}
+use Rattle.meaning.specs.Sheet.{Spot}
+use Rattle.rows.specs.Blocks.{Block}
 use Rattle.rows.specs.Locate.{Located, nowhere, here, under_of, is_located, elements_found_rows}
-use Rattle.rows.specs.Counting.{Change, no_change, both, adds, clears, give_change, passing_change, new_block, found_change, run_change}
+use Rattle.rows.specs.Counting.{no_change, both, adds, give_change, passing_change, new_block, found_change, run_change}
 use Rattle.rows.specs.Within.{under_change, GoesOn, run-change}
-use Rattle.message.specs.Means.{way_words, prev_words}
-use Rattle.tables.specs.Holding.{Holds, four}
-use Rattle.tables.specs.declared.Counts.{Counts}
+use Rattle.message.specs.Means.{way_words, prev_words, deed_of}
 use Rattle.forecast.specs.declared.Lost.{Lost}
-use Rattle.finder.specs.declared.Sight.{Sight}
+use Rattle.tables.specs.declared.Position.{Position}
+use Rattle.message.specs.declared.Deed.{Deed}
+use Rattle.message.specs.declared.Deed.TheVariants as D
+use Rattle.readers.specs.Given.{given_of}
 use Rattle.forecast.specs.declared.Weight.{Weight}
-use Rattle.forecast.specs.Goes.{Goes}
-use Rattle.finder.specs.Looks.{Sees}
-use Rattle.forecast.specs.Weighs.{or_new, GoesAt, SightGone, way_number, Weighs}
-use Rattle.forecast.specs.Weighs.{nothing_weighed, marked, unled, placed, carried, PlaceWeighed}
+use Rattle.forecast.specs.Weighs.{or_new, GoesAt, SightGone, plain_given, gives_plain, deed_deletes, Counted, Weighs, Few}
+use Rattle.forecast.specs.Weighs.{nothing_weighed, put_weighed, marked, placed, carried, PlaceWeighed}
 
 -- A way that ends here.
 
@@ -45,73 +46,72 @@ ends (insert p a) e = absurd (prev_some p e)
 ends (into_map k w) e = absurd (let z : suc (suc (suc (length (way_words w)))) ≡ 0 = ap length e in omega arith)
 ends (into_list i w) e = absurd (let z : suc (suc (suc (length (way_words w)))) ≡ 0 = ap length e in omega arith)
 
+-- Plain values.
+
+abbrev pub is_plain : Assigned → Bool
+is_plain (plain v) = true
+is_plain empty_map = false
+is_plain empty_list = false
+
+pub given_plain : (a : Assigned) → plain_given (given_of a) ≡ is_plain a
+unfolding plain_given given_of
+given_plain (plain null) = refl
+given_plain (plain (bool true)) = refl
+given_plain (plain (bool false)) = refl
+given_plain (plain (integer (pos n))) = refl
+given_plain (plain (integer (negsuc n))) = refl
+given_plain (plain (string b)) = refl
+given_plain empty_map = refl
+given_plain empty_list = refl
+
 -- What an assign or a delete comes to.
 
 module _ (d : List ℕ) (n : ℕ) (b : Block) (g : Lost) where
-  abbrev place_weight : ℕ → Weight
+  abbrev place_weight : Deed → Weight
   place_weight deed = record {
-    found = true;
     places = 0;
-    marks = cond (eqb deed 0) 0 1;
-    values = cond (eqb deed 1) 1 0;
+    marks = cond (deed_deletes deed) 0 1;
+    values = cond (gives_plain deed) 1 0;
     gone_marks = g.marks;
     gone_values = g.values;
   }
 
-  cleared : Goes d (join b) g → Weighs true (both (adds 0 1 0) (clears d (join b))) (place_weight 2)
-  cleared h = record {
-    found_is = refl;
-    places = refl;
-    marks = refl;
-    values = refl;
-    gone_marks = omega (arith, h.marks);
-    gone-values = omega (arith, h.values);
-  }
+  given_is : (a : Assigned) (p : Bool) → p ≡ is_plain a → GoesAt p d b g
+      → Counted (give_change d a b) (record { places = 0; marks = 1; values = cond p 1 0; gone_marks = g.marks; gone_values = g.values })
+  unfolding give_change
+  given_is (plain v) true e h =
+      record { places = refl; marks = refl; values = refl; gone_marks = omega (arith, h.0); gone-values = omega (arith, h.1) }
+  given_is (plain v) false e h = absurd (false≢true e)
+  given_is empty_map false e h =
+      record { places = refl; marks = refl; values = refl; gone_marks = omega (arith, h.marks); gone-values = omega (arith, h.values) }
+  given_is empty_map true e h = absurd (true≢false e)
+  given_is empty_list false e h =
+      record { places = refl; marks = refl; values = refl; gone_marks = omega (arith, h.marks); gone-values = omega (arith, h.values) }
+  given_is empty_list true e h = absurd (true≢false e)
 
-  place_is : (w : Way) → Ends w → GoesAt (eqb (way_number w) 1) d b g → Weighs true (run_change d n w b) (place_weight (way_number w))
-  unfolding way_number run_change give_change
-  place_is (assign (plain v)) e h =
-      record {
-        found_is = refl;
-        places = refl;
-        marks = refl;
-        values = refl;
-        gone_marks = omega (arith, h.0);
-        gone-values = omega (arith, h.1);
-      }
-  place_is (assign empty_map) e h = cleared h
-  place_is (assign empty_list) e h = cleared h
-  place_is delete e h =
-      record { found_is = refl; places = refl; marks = refl; values = refl; gone_marks = h.marks; gone-values = h.values }
+  place_is : (w : Way) → Ends w → GoesAt (gives_plain (deed_of w)) d b g → Counted (run_change d n w b) (place_weight (deed_of w))
+  unfolding deed_of run_change
+  place_is (assign a) e h = given_is a (plain_given (given_of a)) (given_plain a) h
+  place_is delete e h = record { places = refl; marks = refl; values = refl; gone_marks = h.marks; gone-values = h.values }
   place_is (insert _ _) e h = elim e [ ]
   place_is (into_map _ _) e h = elim e [ ]
   place_is (into_list _ _) e h = elim e [ ]
 
-pub place_weighed : (h m v : List ℕ) (rows : ℕ) (s : Sight) (d : List ℕ) (deed : ℕ) (g : Lost) (x y : ℕ)
-    → SightGone h m v rows s (eqb deed 1) d g → x ≡ cond (eqb deed 0) 0 1 → y ≡ cond (eqb deed 1) 1 0 → x ≤ 1
-    → PlaceWeighed h m v rows s d deed
-    (record { found = true; places = 0; marks = x; values = y; gone_marks = g.marks; gone_values = g.values })
-place_weighed h m v rows s d deed g x y G a b l = record {
+one_mark : (deed : Deed) → cond (deed_deletes deed) 0 1 ≤ 1
+one_mark (D.Assign g) = omega arith
+one_mark (D.Insert g) = omega arith
+one_mark D.Delete = omega arith
+
+pub place_weighed : (h m v : List ℕ) (rows : ℕ) (s : Option Position) (d : List ℕ) (deed : Deed) (g : Lost) (u : Weight)
+    → SightGone h m v rows s deed d g → u ≡ put_weighed deed → PlaceWeighed h m v rows s d deed
+    (record { places = u.places; marks = u.marks; values = u.values; gone_marks = g.marks; gone_values = g.values })
+place_weighed h m v rows s d deed g u G a = rw a (record {
   few_places = omega arith;
-  few_marks = l;
-  is = λ k c rs n p t w H q S e f. go k c rs n p t w H q S e f;
-}
-  where
-    go : (k : List ℕ) (c : Counts) (rs : List Row) (n : ℕ) (p : Spot) (t : Located) (w : Way) → Holds (four h k m v) c rs
-        → rows ≡ c.rows → Sees rs n s t → way_words w ≡ [] → deed ≡ way_number w
-        → Weighs true (run_change d n w (or_new n p t))
-        (record { found = true; places = 0; marks = x; values = y; gone_marks = g.marks; gone_values = g.values })
-    go k c rs n p t w H q S e f =
-        let z = subst (λ i. GoesAt (eqb i 1) d (or_new n p t) g) f (G k c rs n p t H q S) in
-        let r = place_is d n (or_new n p t) g w (ends w e) z in
-        record {
-          found_is = r.found_is;
-          places = r.places;
-          marks = a ∙ (ap (λ i. cond (eqb i 0) 0 1) f ∙ r.marks);
-          values = b ∙ (ap (λ i. cond (eqb i 1) 1 0) f ∙ r.values);
-          gone_marks = r.gone_marks;
-          gone-values = r.gone-values;
-        }
+  few_marks = one_mark deed;
+  is = λ k c rs n p t w H q S e f.
+      subst (λ i. Counted (run_change d n w (or_new n p t)) (place_weight d n (or_new n p t) g i)) (sym f)
+      (place_is d n (or_new n p t) g w (ends w e) (subst (λ i. GoesAt (gives_plain i) d (or_new n p t) g) f (G k c rs n p t H q S)));
+})
 
 -- A place under a key.
 
@@ -121,109 +121,84 @@ and_false false = refl
 
 module _ (d : List ℕ) (n : ℕ) (p : Spot) (w : Way) (u : Weight) where
   pub map_carry : (l : Located) (covers : Bool)
-      → Weighs (elements_found_rows d (suc n) w (under_of l)) (run_change d n w (or_new n p l)) u
+      → Weighs (elements_found_rows d (suc n) w (under_of l)) (run_change d n w (or_new n p l)) (Some u)
       → Weighs (elements_found_rows d (suc n) w (under_of l)) (found_change (run_change d n w) (makes w) n p l)
       (carried u (is_located l) false covers (makes w))
   unfolding carried
   map_carry (here b) covers W = W
-  map_carry nowhere covers W = go (makes w)
+  map_carry nowhere covers W = (W.0, go (makes w))
     where
       go : (new : Bool)
-          → Weighs (elements_found_rows d (suc n) w []) (cond new (both (adds 1 0 0) (run_change d n w (new_block n p))) no_change)
-          (cond new (placed u) (nothing_weighed u.found))
-      go true = record {
-        found_is = W.found_is;
-        places = omega (arith, W.places);
-        marks = omega (arith, W.marks);
-        values = omega (arith, W.values);
-        gone_marks = omega (arith, W.gone_marks);
-        gone-values = omega (arith, W.gone-values);
-      }
-      go false = record { found_is = W.found_is; places = refl; marks = refl; values = refl; gone_marks = refl; gone-values = refl }
+          → Counted (cond new (both (adds 1 0 0) (run_change d n w (new_block n p))) no_change) (cond new (placed u) nothing_weighed)
+      go true =
+          let C = W.1 in
+          record {
+            places = omega (arith, C.places);
+            marks = omega (arith, C.marks);
+            values = omega (arith, C.values);
+            gone_marks = omega (arith, C.gone_marks);
+            gone-values = omega (arith, C.gone-values);
+          }
+      go false = record { places = refl; marks = refl; values = refl; gone_marks = refl; gone-values = refl }
 
   pub list_carry : (l : Located) (e : ℕ) (new : Bool)
-      → Weighs (elements_found_rows d (suc n) w (under_of l)) (run_change d n w (or_new n p l)) u
+      → Weighs (elements_found_rows d (suc n) w (under_of l)) (run_change d n w (or_new n p l)) (Some u)
       → Weighs (covered d e && elim l [ nowhere ↦ false | here b ↦ elements_found_rows d (suc n) w b.under ])
       (found_change (run_change d n w) false n p l) (carried u (is_located l) true (covered d e) new)
   unfolding carried
   list_carry (here b) e new W = go (covered d e)
     where
-      go : (t : Bool) → Weighs (t && elements_found_rows d (suc n) w b.under) (run_change d n w b) (cond t u (unled u))
+      go : (t : Bool) → Weighs (t && elements_found_rows d (suc n) w b.under) (run_change d n w b) (cond t (Some u) None)
       go true = W
-      go false = record {
-        found_is = refl;
-        places = W.places;
-        marks = W.marks;
-        values = W.values;
-        gone_marks = W.gone_marks;
-        gone-values = W.gone-values;
-      }
-  list_carry nowhere e new W = record {
-    found_is = sym (and_false (covered d e));
-    places = refl;
-    marks = refl;
-    values = refl;
-    gone_marks = refl;
-    gone-values = refl;
-  }
+      go false = refl
+  list_carry nowhere e new W = and_false (covered d e)
+
+-- an element farther on isn't there
+pub list_lost : (d : List ℕ) (n : ℕ) (w : Way) (l : Located) (e : ℕ) → elements_found_rows d (suc n) w (under_of l) ≡ false
+    → covered d e && elim l [ nowhere ↦ false | here b ↦ elements_found_rows d (suc n) w b.under ] ≡ false
+list_lost d n w nowhere e f = and_false (covered d e)
+list_lost d n w (here b) e f = ap (λ t. covered d e && t) f ∙ and_false (covered d e)
 
 -- few
-pub carried_places : (u : Weight) (there list covers new : Bool) → (carried u there list covers new).places ≤ u.places + 1
+pub carried_few : (u : Weight) (n : ℕ) (there list covers new : Bool) → u.places + 1 ≤ n → u.marks ≤ n
+    → Few n (carried u there list covers new)
 unfolding carried
-carried_places u true true true new = omega arith
-carried_places u true true false new = omega arith
-carried_places u true false covers new = omega arith
-carried_places u false true covers new = omega arith
-carried_places u false false covers true = omega arith
-carried_places u false false covers false = omega arith
-
-pub carried_marks : (u : Weight) (there list covers new : Bool) → (carried u there list covers new).marks ≤ u.marks
-unfolding carried
-carried_marks u true true true new = omega arith
-carried_marks u true true false new = omega arith
-carried_marks u true false covers new = omega arith
-carried_marks u false true covers new = omega arith
-carried_marks u false false covers true = omega arith
-carried_marks u false false covers false = omega arith
+carried_few u n true true true new p m = (omega arith, omega arith)
+carried_few u n true true false new p m = tt
+carried_few u n true false covers new p m = (omega arith, omega arith)
+carried_few u n false true covers new p m = tt
+carried_few u n false false covers true p m = (omega arith, omega arith)
+carried_few u n false false covers false p m = (omega arith, omega arith)
 
 -- The mark on the way.
 
-pub marked_marks : (u : Weight) (deed : ℕ) → (marked u deed).marks ≤ u.marks + 1
+pub marked_marks : (u : Weight) (deed : Deed) → (marked u deed).marks ≤ u.marks + 1
 unfolding marked
-marked_marks u deed = go (eqb deed 0)
-  where
-    go : (b : Bool) → cond b u.marks (u.marks + 1) ≤ u.marks + 1
-    go true = omega arith
-    go false = omega arith
+marked_marks u (D.Assign g) = omega arith
+marked_marks u (D.Insert g) = omega arith
+marked_marks u D.Delete = omega arith
 
-pub marked_places : (u : Weight) (deed : ℕ) → (marked u deed).places ≡ u.places
+pub marked_places : (u : Weight) (deed : Deed) → (marked u deed).places ≡ u.places
 unfolding marked
 marked_places u deed = refl
 
-pub number_deletes : (w : Way) → eqb (way_number w) 0 ≡ deletes w
-unfolding way_number deletes
-number_deletes (assign (plain v)) = refl
-number_deletes (assign empty_map) = refl
-number_deletes (assign empty_list) = refl
-number_deletes delete = refl
-number_deletes (insert p (plain v)) = refl
-number_deletes (insert p empty_map) = refl
-number_deletes (insert p empty_list) = refl
-number_deletes (into_map k w) = number_deletes w
-number_deletes (into_list e w) = number_deletes w
+way_deletes : (w : Way) → deed_deletes (deed_of w) ≡ deletes w
+unfolding deed_of deletes
+way_deletes (assign a) = refl
+way_deletes delete = refl
+way_deletes (insert p a) = refl
+way_deletes (into_map k w) = way_deletes w
+way_deletes (into_list e w) = way_deletes w
 
-pub mark-is : (d : List ℕ) (n : ℕ) (w : Way) (b : Block) (found : Bool) (u : Weight) (deed : ℕ) → GoesOn w → deed ≡ way_number w
-    → Weighs found (under_change d (suc n) w b.under) u → Weighs found (run_change d n w b) (marked u deed)
+pub mark-is : (d : List ℕ) (n : ℕ) (w : Way) (b : Block) (u : Weight) (deed : Deed) → GoesOn w → deed ≡ deed_of w
+    → Counted (under_change d (suc n) w b.under) u → Counted (run_change d n w b) (marked u deed)
 unfolding marked
-mark-is d n w b found u deed g e W =
-    subst (λ c. Weighs found c (marked u deed)) (sym (run-change d n w b g)) (go (eqb deed 0) (ap (λ i. eqb i 0) e ∙ number_deletes w))
+mark-is d n w b u deed g e C =
+    subst (λ c. Counted c (marked u deed)) (sym (run-change d n w b g))
+    (go (deed_deletes deed) (ap deed_deletes e ∙ way_deletes w))
   where
-    C : Change
-    C = under_change d (suc n) w b.under
-
     go : (t : Bool) → t ≡ deletes w
-        → Weighs found (both (passing_change w) C) (record {
-          found = u.found;
+        → Counted (both (passing_change w) (under_change d (suc n) w b.under)) (record {
           places = u.places;
           marks = cond t u.marks (u.marks + 1);
           values = u.values;
@@ -232,19 +207,17 @@ mark-is d n w b found u deed g e W =
         })
     go true f =
         rw (sym f) (record {
-          found_is = W.found_is;
-          places = omega (arith, W.places);
-          marks = omega (arith, W.marks);
-          values = omega (arith, W.values);
-          gone_marks = omega (arith, W.gone_marks);
-          gone-values = omega (arith, W.gone-values);
+          places = omega (arith, C.places);
+          marks = omega (arith, C.marks);
+          values = omega (arith, C.values);
+          gone_marks = omega (arith, C.gone_marks);
+          gone-values = omega (arith, C.gone-values);
         })
     go false f =
         rw (sym f) (record {
-          found_is = W.found_is;
-          places = omega (arith, W.places);
-          marks = omega (arith, W.marks);
-          values = omega (arith, W.values);
-          gone_marks = omega (arith, W.gone_marks);
-          gone-values = omega (arith, W.gone-values);
+          places = omega (arith, C.places);
+          marks = omega (arith, C.marks);
+          values = omega (arith, C.values);
+          gone_marks = omega (arith, C.gone_marks);
+          gone-values = omega (arith, C.gone-values);
         })

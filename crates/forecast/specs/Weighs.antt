@@ -2,8 +2,8 @@
 -- A place under a key is looked for among the rows that stand behind a place, its children of depth n first; rows that are shallower
 -- end them. Each promise says: if the tables hold rows, the answer is that of the rows.
 -- Assumes nothing: these are definitions.
-use Rattle.std.specs.Prelude.{ℕ, ◌+◌, ◌≤◌, ◌≡◌, Bool, true, false, cond, List, [], ◌∷◌, ◌++◌, eqb, length}
-use Rattle.meaning.specs.Ways.{Assigned, plain, empty_map, empty_list, Way, assign, delete, insert, into_map, into_list, steps}
+use Rattle.std.specs.Prelude.{ℕ, ◌+◌, ◌≤◌, ◌≡◌, Bool, true, false, cond, List, [], ◌∷◌, ◌++◌, length, Option, None, Some}
+use Rattle.meaning.specs.Ways.{Way, steps}
 use Rattle.meaning.specs.Valid.{ValidWay}
 use Rattle.meaning.specs.Sheet.{Spot, Row}
 use Rattle.rows.specs.Blocks.{Block, join}
@@ -16,12 +16,10 @@ use Rattle.message.specs.Means.{way_words, deed_of}
 use Rattle.message.specs.declared.Act.{Act}
 use Rattle.message.specs.declared.Deed.{Deed}
 use Rattle.message.specs.declared.Deed.TheVariants as D
-use Rattle.tables.specs.Standing.{behind}
 use Rattle.tables.specs.Holding.{Holds, four}
 use Rattle.tables.specs.declared.Counts.{Counts}
 use Rattle.tables.specs.declared.Position.{Position}
-use Rattle.finder.specs.Looks.{Sees}
-use Rattle.finder.specs.declared.Sight.{Sight}
+use Rattle.finder.specs.Looks.{Sees, hanging, HangsBehind}
 use Rattle.forecast.specs.declared.Lost.{Lost}
 use Rattle.forecast.specs.declared.Weight.{Weight}
 use Rattle.forecast.specs.Goes.{Goes}
@@ -36,12 +34,7 @@ abbrev pub GoesAt : Bool → List ℕ → Block → Lost → Type 0
 GoesAt true d b g = (g.marks ≡ 0) × (g.values ≡ gone_values d (b.own ∷ []))
 GoesAt false d b g = Goes d (join b) g
 
-abbrev pub SightGone : List ℕ → List ℕ → List ℕ → ℕ → Sight → Bool → List ℕ → Lost → Type 0
-SightGone h m v rows s alone d g =
-    (k : List ℕ) (c : Counts) (rs : List Row) (n : ℕ) (p : Spot) (l : Located) → Holds (four h k m v) c rs → rows ≡ c.rows
-    → Sees rs n s l → GoesAt alone d (or_new n p l) g
-
--- Deeds by number.
+-- Deeds.
 
 unfoldable pub plain_given : Given → Bool
 plain_given G.Null = true
@@ -53,56 +46,68 @@ plain_given (G.String n) = true
 plain_given G.Map = false
 plain_given G.List = false
 
-unfoldable pub deed_number : Deed → ℕ
-deed_number (D.Assign g) = cond (plain_given g) 1 2
-deed_number (D.Insert g) = cond (plain_given g) 3 4
-deed_number D.Delete = 0
+-- a plain value is assigned or inserted
+abbrev pub gives_plain : Deed → Bool
+gives_plain (D.Assign g) = plain_given g
+gives_plain (D.Insert g) = plain_given g
+gives_plain D.Delete = false
 
-abbrev pub is_plain : Assigned → Bool
-is_plain (plain v) = true
-is_plain empty_map = false
-is_plain empty_list = false
+abbrev pub deed_deletes : Deed → Bool
+deed_deletes (D.Assign g) = false
+deed_deletes (D.Insert g) = false
+deed_deletes D.Delete = true
 
-unfoldable pub way_number : Way → ℕ
-way_number (assign a) = cond (is_plain a) 1 2
-way_number delete = 0
-way_number (insert p a) = cond (is_plain a) 3 4
-way_number (into_map k w) = way_number w
-way_number (into_list e w) = way_number w
+abbrev pub SightGone : List ℕ → List ℕ → List ℕ → ℕ → Option Position → Deed → List ℕ → Lost → Type 0
+SightGone h m v rows s deed d g =
+    (k : List ℕ) (c : Counts) (rs : List Row) (n : ℕ) (p : Spot) (l : Located) → Holds (four h k m v) c rs → rows ≡ c.rows
+    → Sees rs n s l → GoesAt (gives_plain deed) d (or_new n p l) g
 
 -- Weights.
 
--- the weight says whether the way is led, and what changes
-pub record Weighs (found : Bool) (c : Change) (x : Weight) : Type 0 where
-  pub found_is : x.found ≡ found
+-- the weight says what changes
+pub record Counted (c : Change) (x : Weight) : Type 0 where
   pub places : x.places ≡ c.more.places
   pub marks : x.marks ≡ c.more.marks
   pub values : x.values ≡ c.more.values
   pub gone_marks : x.gone_marks ≡ c.less.marks
   pub gone-values : x.gone_values ≡ c.less.values
 
-abbrev pub nothing_weighed : Bool → Weight
-nothing_weighed b = record { found = b; places = 0; marks = 0; values = 0; gone_marks = 0; gone_values = 0 }
+-- whether the way is led; and if it is, what changes
+abbrev pub Weighs : Bool → Change → Option Weight → Type 0
+Weighs found c None = found ≡ false
+Weighs found c (Some x) = (found ≡ true) × Counted c x
 
-unfoldable pub element_weighed : Bool → ℕ → Weight
-element_weighed b deed =
-    record { found = b; places = 1; marks = 1; values = cond (eqb deed 3) 1 0; gone_marks = 0; gone_values = 0 }
+-- at most so many places and marks come
+abbrev pub Few : ℕ → Option Weight → Type 0
+Few n None = Unit {0}
+Few n (Some x) = (x.places ≤ n) × (x.marks ≤ n)
 
-unfoldable pub marked : Weight → ℕ → Weight
-marked u deed = record {
-  found = u.found;
-  places = u.places;
-  marks = cond (eqb deed 0) u.marks (u.marks + 1);
-  values = u.values;
-  gone_marks = u.gone_marks;
-  gone_values = u.gone_values;
+abbrev pub nothing_weighed : Weight
+nothing_weighed = record { places = 0; marks = 0; values = 0; gone_marks = 0; gone_values = 0 }
+
+-- the mark and the value that come at a deed's place
+abbrev pub put_weighed : Deed → Weight
+put_weighed deed = record {
+  places = 0;
+  marks = cond (deed_deletes deed) 0 1;
+  values = cond (gives_plain deed) 1 0;
+  gone_marks = 0;
+  gone_values = 0;
 }
 
-abbrev pub unled : Weight → Weight
-unled u = record {
-  found = false;
+abbrev pub element_weighed : Deed → Weight
+element_weighed deed = record {
+  places = 1;
+  marks = cond (deed_deletes deed) 0 1;
+  values = cond (gives_plain deed) 1 0;
+  gone_marks = 0;
+  gone_values = 0;
+}
+
+unfoldable pub marked : Weight → Deed → Weight
+marked u deed = record {
   places = u.places;
-  marks = u.marks;
+  marks = cond (deed_deletes deed) u.marks (u.marks + 1);
   values = u.values;
   gone_marks = u.gone_marks;
   gone_values = u.gone_values;
@@ -110,7 +115,6 @@ unled u = record {
 
 abbrev pub placed : Weight → Weight
 placed u = record {
-  found = u.found;
   places = u.places + 1;
   marks = u.marks;
   values = u.values;
@@ -118,31 +122,26 @@ placed u = record {
   gone_values = u.gone_values;
 }
 
-unfoldable pub carried : Weight → Bool → Bool → Bool → Bool → Weight
+unfoldable pub carried : Weight → Bool → Bool → Bool → Bool → Option Weight
 carried u there list covers makes =
-    cond there (cond list (cond covers u (unled u)) u)
-    (cond list (nothing_weighed false) (cond makes (placed u) (nothing_weighed u.found)))
+    cond there (cond list (cond covers (Some u) None) (Some u))
+    (cond list None (Some (cond makes (placed u) nothing_weighed)))
 
 -- an assign or a delete at its place
-pub record PlaceWeighed (h m v : List ℕ) (rows : ℕ) (s : Sight) (d : List ℕ) (deed : ℕ) (x : Weight) : Type 0 where
+pub record PlaceWeighed (h m v : List ℕ) (rows : ℕ) (s : Option Position) (d : List ℕ) (deed : Deed) (x : Weight) : Type 0 where
   pub few_places : x.places ≤ 0
   pub few_marks : x.marks ≤ 1
   pub is : (k : List ℕ) (c : Counts) (rs : List Row) (n : ℕ) (p : Spot) (l : Located) (w : Way) → Holds (four h k m v) c rs
-      → rows ≡ c.rows → Sees rs n s l → way_words w ≡ [] → deed ≡ way_number w
-      → Weighs true (run_change d n w (or_new n p l)) x
+      → rows ≡ c.rows → Sees rs n s l → way_words w ≡ [] → deed ≡ deed_of w → Counted (run_change d n w (or_new n p l)) x
 
 -- a way from a place on; n is the depth of the rows that hang there, if any do
-pub record WayWeighed (h k m v : List ℕ) (rows : ℕ) (from : Position) (n : ℕ) (parent-known : Bool) (d : List ℕ) (deed : ℕ) (way : List ℕ)
-    (x : Weight) : Type 0 where
-  pub few_places : x.places ≤ length way
-  pub few_marks : x.marks ≤ length way
+pub record WayWeighed (h k m v : List ℕ) (rows : ℕ) (from : Option Position) (n : ℕ) (d : List ℕ) (deed : Deed) (way : List ℕ)
+    (x : Option Weight) : Type 0 where
+  pub few : Few (length way) x
   pub is : (c : Counts) (A B : List Row) (w : Way) → Holds (four h k m v) c (A ++ B) → rows ≡ c.rows
-      → (parent-known ≡ true → from ≡ behind A) → way ≡ way_words w → deed ≡ way_number w → ValidWay w → n + steps w ≤ 9
-      → Weighs (elements_found_rows d n w (cond parent-known B [])) (under_change d n w (cond parent-known B [])) x
+      → HangsBehind from A → way ≡ way_words w → deed ≡ deed_of w → ValidWay w → n + steps w ≤ 9
+      → Weighs (elements_found_rows d n w (hanging from B)) (under_change d n w (hanging from B)) x
 
 -- the way of an operation that does o, from the root on
-pub record Weighed (h k m v : List ℕ) (rows : ℕ) (top : Position) (o : Act) (way : List ℕ) (x : Weight) : Type 0 where
-  pub few_places : x.places ≤ length way
-  pub few_marks : x.marks ≤ length way
-  pub is : (c : Counts) (A B : List Row) (w : Way) → Holds (four h k m v) c (A ++ B) → rows ≡ c.rows → top ≡ behind A → way ≡ way_words w
-      → o.deed ≡ deed_of w → ValidWay w → steps w ≤ 8 → Weighs (elements_found_rows o.deps.at 1 w B) (under_change o.deps.at 1 w B) x
+abbrev pub Weighed : List ℕ → List ℕ → List ℕ → List ℕ → ℕ → Position → Act → List ℕ → Option Weight → Type 0
+Weighed h k m v rows top o way x = WayWeighed h k m v rows (Some top) 1 o.deps.at o.deed way x

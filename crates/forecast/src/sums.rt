@@ -1,128 +1,98 @@
 // What comes and goes at the places of a way, summed up.
 ghost use Rattle.std.specs.Prelude.{◌≡◌, ◌<◌};
-ghost use Rattle.forecast.specs.Weighs.{plain_given, deed_number, marked, carried, nothing_weighed, element_weighed};
+ghost use Rattle.forecast.specs.Weighs.{plain_given, gives_plain, deed_deletes, marked, carried, nothing_weighed, put_weighed};
+ghost use Rattle.forecast.specs.Weighs.{element_weighed};
 
 use crate::Weight;
 use message::Deed;
 use readers::Given;
 
+// Nothing comes and nothing goes.
+pub const WEIGHTLESS: Weight = Weight {
+    places: 0,
+    marks: 0,
+    values: 0,
+    gone_marks: 0,
+    gone_values: 0,
+};
+
 #[tactic(auto, unfolding(crate::specs::Weighs::plain_given))]
 fn plain(g: Given) -> bool
     ensures { result ≡ plain_given g }
 {
-    match g {
-        Given::Null => true,
-        Given::True => true,
-        Given::False => true,
-        Given::NonNeg(_) => true,
-        Given::Neg(_) => true,
-        Given::String(_) => true,
-        Given::Map => false,
-        Given::List => false,
+    !matches!(g, Given::Map | Given::List)
+}
+
+// Whether a plain value is assigned or inserted.
+pub fn gives_plain(deed: Deed) -> bool
+    ensures { result ≡ gives_plain deed }
+{
+    match deed {
+        Deed::Assign(g) | Deed::Insert(g) => plain(g),
+        Deed::Delete => false,
     }
 }
 
-// Delete, assign of a plain value, of an empty map or list, insert of a plain value, of an empty map or list.
-#[tactic(auto, unfolding(crate::specs::Weighs::deed_number))]
-pub fn deed_number(deed: Deed) -> u64
-    ensures { result ≡ deed_number deed }
+pub fn deletes(deed: Deed) -> bool
+    ensures { result ≡ deed_deletes deed }
 {
-    match deed {
-        Deed::Assign(g) => { if plain(g) { 1 } else { 2 } }
-        Deed::Insert(g) => { if plain(g) { 3 } else { 4 } }
-        Deed::Delete => 0,
+    matches!(deed, Deed::Delete)
+}
+
+// The mark and the value that come at the deed's place: no mark if it deletes, and a value if it is a plain one.
+pub fn put(deed: Deed) -> Weight
+    ensures { result ≡ put_weighed deed }
+{
+    Weight {
+        marks: usize::from(!deletes(deed)),
+        values: usize::from(gives_plain(deed)),
+        ..WEIGHTLESS
+    }
+}
+
+// A new element: a place, and what the deed puts there.
+pub fn element(deed: Deed) -> Weight
+    ensures { result ≡ element_weighed deed }
+{
+    Weight {
+        places: 1,
+        ..put(deed)
     }
 }
 
 // The mark on the way, unless the operation deletes.
 #[tactic(auto, unfolding(crate::specs::Weighs::marked))]
-pub fn mark(u: Weight, deed: u64) -> Weight
+pub fn mark(u: Weight, deed: Deed) -> Weight
     requires { u.marks < 9223372036854775808 }
     ensures { result ≡ marked u deed }
 {
-    if deed == 0 {
+    if deletes(deed) {
         return u;
     }
     Weight {
-        found: u.found,
-        places: u.places,
         marks: u.marks + 1,
-        values: u.values,
-        gone_marks: u.gone_marks,
-        gone_values: u.gone_values,
+        ..u
     }
 }
 
-// What is weighed at a place that was looked for under a key: an unknown one is made, if it is under a map key and not deleted.
-pub fn carry(u: Weight, there: bool, list: bool, covers: bool, makes: bool) -> Weight
+// What is weighed at a place that was looked for under a key: an element has to be there, and to be covered; an unknown place under a map
+// key is made, if it is not deleted.
+#[tactic(auto, unfolding(crate::specs::Weighs::carried))]
+pub fn carry(u: Weight, there: bool, list: bool, covers: bool, makes: bool) -> Option<Weight>
     requires { u.places < 9223372036854775808 }
     ensures { result ≡ carried u there list covers makes }
 {
-    if there {
-        if list {
-            if !covers {
-                return Weight {
-                    found: false,
-                    places: u.places,
-                    marks: u.marks,
-                    values: u.values,
-                    gone_marks: u.gone_marks,
-                    gone_values: u.gone_values,
-                };
-            }
-        }
-        return u;
+    if list && !(there && covers) {
+        return None;
     }
-    if list {
-        return weightless(false);
+    if there {
+        return Some(u);
     }
     if makes {
-        return Weight {
-            found: u.found,
+        return Some(Weight {
             places: u.places + 1,
-            marks: u.marks,
-            values: u.values,
-            gone_marks: u.gone_marks,
-            gone_values: u.gone_values,
-        };
+            ..u
+        });
     }
-    weightless(u.found)
-}
-
-pub fn weightless(found: bool) -> Weight
-    ensures { result ≡ nothing_weighed found }
-{
-    Weight {
-        found: found,
-        places: 0,
-        marks: 0,
-        values: 0,
-        gone_marks: 0,
-        gone_values: 0,
-    }
-}
-
-// A new element: a place with a mark, and a value if it is a plain one.
-#[tactic(auto, unfolding(crate::specs::Weighs::element_weighed))]
-pub fn element(found: bool, deed: u64) -> Weight
-    ensures { result ≡ element_weighed found deed }
-{
-    if deed == 3 {
-        return Weight {
-            found: found,
-            places: 1,
-            marks: 1,
-            values: 1,
-            gone_marks: 0,
-            gone_values: 0,
-        };
-    }
-    Weight {
-        found: found,
-        places: 1,
-        marks: 1,
-        values: 0,
-        gone_marks: 0,
-        gone_values: 0,
-    }
+    Some(WEIGHTLESS)
 }

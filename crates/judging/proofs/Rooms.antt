@@ -1,13 +1,12 @@
 -- 10: the room that is counted is the room that the operation leaves.
 -- Assumes nothing.
-use Prim.Native.Nat.{ℕ, suc, ◌+◌, ◌≤◌, ◌<◌}
+use Prim.Native.Nat.{ℕ, suc, ◌+◌, ◌≤◌}
 use native.Mathlib.Omega.{arith}
 use mathlib.Core.Path.{◌≡◌, refl, sym, ap, ◌∙◌}
 use mathlib.Core.Bool.{Bool, true, false, cond, ◌&&◌}
 use mathlib.Core.List.{List}
 use lib.Dec.{leb}
 use lib.ListN.{length}
-use borrow.Author.Tests.{le-leb, lt-leb}
 use Rattle.meaning.specs.Ways.{Assigned, plain, empty_map, empty_list, Way, assign, delete, insert, into_map, into_list}
 use Rattle.meaning.specs.Ways.{deletes, makes}
 use Rattle.meaning.specs.Ways as M
@@ -25,9 +24,9 @@ use Rattle.rows.specs.Counting.{change}
 use Rattle.rows.proofs.Balanced.{apply_balance}
 use Rattle.rows.specs.Room.{room, room_for, sound_fresh}
 use Rattle.rows.proofs.Room.{room_rows}
-use Rattle.tables.specs.Words.{Tables}
+use Rattle.tables.specs.declared.Tables.{Tables}
 use Rattle.tables.specs.declared.Counts.{Counts}
-use Rattle.forecast.specs.Weighs.{Weighs}
+use Rattle.forecast.specs.Weighs.{Counted}
 use Rattle.forecast.specs.declared.Weight.{Weight}
 use Rattle.keeping.specs.Storing.{Stores}
 use Rattle.judging.specs.Judging.{Small, has_room, Newer}
@@ -76,8 +75,8 @@ change_slight : (o : M.Operation) (rs : List Row) → Slight (change o rs)
 unfolding change
 change_slight o rs = found_slight _ (run_slight o.deps o.way 1) (makes o.way) 1 (in_map o.top) (locate_key 1 o.top rs)
 
-module _ (T : Tables) (c : Counts) (D : Document) (o : M.Operation) (S : Stores T c D.seen D) (n : Newer D o) (x : Weight) (found : Bool)
-    (W : Weighs found (change o (rows_of D)) x) (few_places : x.places ≤ 24) (few_marks : x.marks ≤ 24) where
+module _ (T : Tables) (c : Counts) (D : Document) (o : M.Operation) (S : Stores T c D.seen D) (n : Newer D o) (x : Weight)
+    (W : Counted (change o (rows_of D)) x) (few_places : x.places ≤ 24) (few_marks : x.marks ≤ 24) where
   pub weight_small : Small c x
   weight_small =
       let b = apply_balance o (rows_of D) (sound_fresh D o.id S.sound n) in
@@ -106,18 +105,3 @@ module _ (T : Tables) (c : Counts) (D : Document) (o : M.Operation) (S : Stores 
       let values = leb (values_in (rows_of D) + ch.more.values) (256 + ch.less.values) in
       rw (H.rows_are, H.marks_are, H.values_are, W.places, W.marks, W.values, W.gone_marks, W.gone-values)
       (ap (λ y. leb (length (rows_of D) + ch.more.places) y && marks && values) a ∙ sym (room_rows o D S.sound n))
-
--- the tests, one after another
-module _ (c : Counts) (w : Weight) where
-  pub no_places : 256 < c.rows + w.places → false ≡ has_room c w
-  unfolding has_room
-  no_places h = rw (lt-leb (c.rows + w.places) 256 h)
-
-  pub no_marks : c.rows + w.places ≤ 256 → 1024 + w.gone_marks < c.marks + w.marks → false ≡ has_room c w
-  unfolding has_room
-  no_marks h k = rw (le-leb (c.rows + w.places) 256 h, lt-leb (c.marks + w.marks) (1024 + w.gone_marks) k)
-
-  pub the_values : c.rows + w.places ≤ 256 → c.marks + w.marks ≤ 1024 + w.gone_marks
-      → leb (c.values + w.values) (256 + w.gone_values) ≡ has_room c w
-  unfolding has_room
-  the_values h k = rw (le-leb (c.rows + w.places) 256 h, le-leb (c.marks + w.marks) (1024 + w.gone_marks) k)

@@ -5,6 +5,7 @@ use native.Mathlib.Omega.{arith}
 use mathlib.Core.Path.{◌≡◌, refl, sym, ap, ap₂, ◌∙◌, subst}
 use mathlib.Core.Bool.{Bool, true, false, not}
 use mathlib.Core.List.{List}
+use Rattle.std.specs.Prelude.{Ok, Err, Option, None, Some, ok_or}
 use lib.ListN.{length, get_or, take}
 use Rattle.meaning.specs.Places.{Document}
 use Rattle.meaning.specs.Apply.{apply}
@@ -22,16 +23,16 @@ use Rattle.rows.specs.Within.{under_change, change_under, astray_under}
 use Rattle.message.specs.Means.{way_words, deed_of, pad, Means}
 use Rattle.message.specs.declared.Operation.{Operation}
 use Rattle.message.proofs.Padded.{pad_long, take-pad}
-use Rattle.tables.specs.Words.{Tables}
+use Rattle.tables.specs.declared.Tables.{Tables}
 use Rattle.tables.specs.Holding.{Holds, four}
 use Rattle.tables.specs.declared.Counts.{Counts}
 use Rattle.tables.specs.declared.Position.{Position}
-use Rattle.forecast.specs.Weighs.{Weighs, Weighed}
+use Rattle.forecast.specs.Weighs.{Counted, Few, Weighs, Weighed}
 use Rattle.forecast.specs.declared.Weight.{Weight}
 use Rattle.keeping.specs.Storing.{Stores}
-use Rattle.judging.specs.Judging.{Small, has_room, goes_down, ready_verdict, top_position, Newer, JudgesReady}
-use Rattle.judging.specs.declared.ReadyJudgement.{ReadyJudgement}
-use Rattle.judging.specs.declared.ReadyJudgement.TheVariants as Y
+use Rattle.judging.specs.Judging.{ReadyJudgement, Small, has_room, goes_down, ready_verdict, top_position, Newer, JudgesReady}
+use Rattle.judging.specs.declared.Unfit.{Unfit}
+use Rattle.judging.specs.declared.Unfit.TheVariants as Y
 use Rattle.judging.proofs.Words.{words_count, down_pad}
 use Rattle.judging.proofs.Rooms.{weight_small, room-is}
 use Rattle.judging.proofs.Tops.{found_top, change_top}
@@ -39,6 +40,15 @@ use Rattle.judging.proofs.Tops.{found_top, change_top}
 -- the whole way, from the root
 abbrev pub whole : M.Operation → M.Way
 whole o = into_map o.top o.way
+
+-- the refusal of a weight that is missing
+pub told : (x : Option Weight) (f y : Unfit) → ok_or x f ≡ Err y → y ≡ f
+told None f y e = cc
+told (Some u) f y e = cc
+
+twice : (b : Bool) → b ≡ not (not b)
+twice true = refl
+twice false = refl
 
 -- 9, of an operation by the words of its last key
 abbrev goes_down_at : Operation → ℕ → ℕ → Bool
@@ -75,7 +85,7 @@ module _ (op : Operation) (o : M.Operation) (e : Means op o) (v : ValidOperation
       rw (deed_whole, e.id, words_whole, s.0) (down_pad o.id (whole o) tt s.1)
 
 module _ (h k m v : List ℕ) (c : Counts) (op : Operation) (way : List ℕ) (part : way ≡ take (3 * op.way.n) op.way.keys)
-    (from : Position) (x : Weight) (W : Weighed h k m v c.rows from op.act way x) where
+    (from : Position) (x : Option Weight) (W : Weighed h k m v c.rows from op.act way x) where
   module _ (D : Document) (o : M.Operation) (S : Stores (four h k m v) c D.seen D) (e : Means op o)
       (val : ValidOperation o) (f : from ≡ top_position o D) where
     weighed : Weighs (not (astray D o)) (change o (rows_of D)) x
@@ -94,52 +104,57 @@ module _ (h k m v : List ℕ) (c : Counts) (op : Operation) (way : List ℕ) (pa
         change_top 1 o.top o.way (rows_of D) d
         ∙ (ap (λ d. under_change d 1 (whole o) (rows_of D)) e.deps ∙ sym (change_under o (rows_of D))) in
         subst (λ l. Weighs l (change o (rows_of D)) x) a (subst (λ q. Weighs (elements_found_rows d 1 (whole o) R) q x) b w)
-      where
-        twice : (b : Bool) → b ≡ not (not b)
-        twice true = refl
-        twice false = refl
 
     long : length way ≤ 24
     long = omega (arith, ap length (part ∙ way_part op o e val), words_count (whole o), (steps-whole op o e val).1)
 
-    small : Newer D o → Small c x
-    small y = weight_small (four h k m v) c D o S y x _ weighed (omega (arith, W.few_places, long)) (omega (arith, W.few_marks, long))
+    astray_by : (b : Bool) → not (astray D o) ≡ b → astray D o ≡ not b
+    astray_by b e = twice (astray D o) ∙ ap not e
 
-    room : Newer D o → has_room c x ≡ fits (apply o D)
-    room y = room-is (four h k m v) c D o S y x _ weighed (omega (arith, W.few_places, long)) (omega (arith, W.few_marks, long))
+    stray : x ≡ None → astray D o ≡ true
+    stray t = astray_by false (subst (Weighs (not (astray D o)) (change o (rows_of D))) t weighed)
 
-    stray : (b : Bool) → x.found ≡ b → astray D o ≡ not b
-    stray b t = back (astray D o) b (sym weighed.found_is ∙ t)
-      where
-        back : (a b : Bool) → not a ≡ b → a ≡ not b
-        back true b e = ap not e
-        back false b e = ap not e
+    module _ (u : Weight) (t : x ≡ Some u) where
+      counted : (not (astray D o) ≡ true) × Counted (change o (rows_of D)) u
+      counted = subst (Weighs (not (astray D o)) (change o (rows_of D))) t weighed
 
-  pub judge_eight : x.found ≡ false → JudgesReady (four h k m v) c from op Y.NoElement
+      led : astray D o ≡ false
+      led = astray_by true counted.0
+
+      few : (u.places ≤ length way) × (u.marks ≤ length way)
+      few = subst (Few (length way)) t W.few
+
+      small : Newer D o → Small c u
+      small y = weight_small (four h k m v) c D o S y u counted.1 (omega (arith, few.0, long)) (omega (arith, few.1, long))
+
+      room : Newer D o → has_room c u ≡ fits (apply o D)
+      room y = room-is (four h k m v) c D o S y u counted.1 (omega (arith, few.0, long)) (omega (arith, few.1, long))
+
+  pub judge_eight : x ≡ None → JudgesReady (four h k m v) c from op (Err Y.NoElement)
   unfolding ready_verdict
-  judge_eight t D o S e val y f = rw (stray D o S e val f false t)
+  judge_eight t D o S e val y f = rw (stray D o S e val f t)
 
-  pub judge_large : (Small c x → ⊥) → (r : ReadyJudgement) → JudgesReady (four h k m v) c from op r
-  judge_large t r D o S e val y f = absurd (t (small D o S e val f y))
+  module _ (u : Weight) (t : x ≡ Some u) where
+    pub judge_large : (Small c u → ⊥) → (r : ReadyJudgement) → JudgesReady (four h k m v) c from op r
+    judge_large l r D o S e val y f = absurd (l (small D o S e val f u t y))
 
-  module _ (hi len : ℕ) (a : hi ≡ get_or op.way.keys (3 * op.way.n - 3) 0) (b : len ≡ get_or op.way.keys (3 * op.way.n - 1) 0)
-      (t : x.found ≡ true) where
-    down : (o : M.Operation) → Means op o → ValidOperation o → (y : Bool) → goes_down_at op hi len ≡ y → downward o ≡ y
-    down o e val y g = sym (down_is op o e val) ∙ (rw (← a, ← b) g)
+    module _ (hi len : ℕ) (a : hi ≡ get_or op.way.keys (3 * op.way.n - 3) 0) (b : len ≡ get_or op.way.keys (3 * op.way.n - 1) 0) where
+      down : (o : M.Operation) → Means op o → ValidOperation o → (y : Bool) → goes_down_at op hi len ≡ y → downward o ≡ y
+      down o e val y g = sym (down_is op o e val) ∙ (rw (← a, ← b) g)
 
-    pub judge_nine : goes_down_at op hi len ≡ true → JudgesReady (four h k m v) c from op Y.NotSmaller
-    unfolding ready_verdict
-    judge_nine g D o S e val y f = rw (stray D o S e val f true t, down o e val true g)
+      pub judge_nine : goes_down_at op hi len ≡ true → JudgesReady (four h k m v) c from op (Err Y.NotSmaller)
+      unfolding ready_verdict
+      judge_nine g D o S e val y f = rw (led D o S e val f u t, down o e val true g)
 
-    pub judge_ten : goes_down_at op hi len ≡ false → has_room c x ≡ false → JudgesReady (four h k m v) c from op Y.NoRoom
-    unfolding ready_verdict
-    judge_ten g r D o S e val y f =
-        rw (stray D o S e val f true t, down o e val false g, sym (room D o S e val f y) ∙ r)
+      pub judge_ten : goes_down_at op hi len ≡ false → has_room c u ≡ false → JudgesReady (four h k m v) c from op (Err Y.NoRoom)
+      unfolding ready_verdict
+      judge_ten g r D o S e val y f =
+          rw (led D o S e val f u t, down o e val false g, sym (room D o S e val f u t y) ∙ r)
 
-    pub judge_taken : goes_down_at op hi len ≡ false → has_room c x ≡ true → JudgesReady (four h k m v) c from op Y.Taken
-    unfolding ready_verdict
-    judge_taken g r D o S e val y f =
-        rw (stray D o S e val f true t, down o e val false g, sym (room D o S e val f y) ∙ r)
+      pub judge_taken : goes_down_at op hi len ≡ false → has_room c u ≡ true → JudgesReady (four h k m v) c from op (Ok tt)
+      unfolding ready_verdict
+      judge_taken g r D o S e val y f =
+          rw (led D o S e val f u t, down o e val false g, sym (room D o S e val f u t y) ∙ r)
 
 -- a way has one to eight keys
 module _ (T : Tables) (c : Counts) (from : Position) (op : Operation) (r : ReadyJudgement) where

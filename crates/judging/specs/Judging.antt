@@ -1,7 +1,7 @@
 -- What judging promises of memory that holds a document. An operation is judged on the document as it stands: 2, 3, 4; if it isn't ready it
 -- comes too early; else 8, 9, 10; else it is taken.
 -- Assumes nothing: these are definitions.
-use Rattle.std.specs.Prelude.{ℕ, ◌+◌, ◌≤◌, ◌<◌, ◌≡◌, Bool, true, false, cond, ◌&&◌, List, ◌++◌, leb, ltb, eqb}
+use Rattle.std.specs.Prelude.{ℕ, ◌+◌, ◌≤◌, ◌<◌, ◌≡◌, Bool, true, false, cond, ◌&&◌, List, ◌++◌, leb, ltb, eqb, Result, Ok, Err}
 use Rattle.meaning.specs.Ids.{counter_of, entry_of, entry}
 use Rattle.meaning.specs.Places.{Document}
 use Rattle.meaning.specs.Apply.{apply}
@@ -15,10 +15,9 @@ use Rattle.meaning.specs.declared.Counters.{Counters}
 use Rattle.rows.specs.Blocks.{passed, key_below, over}
 use Rattle.readers.specs.Words.{key_words}
 use Rattle.message.specs.Means.{way_words, pad, Means}
-use Rattle.message.specs.declared.Act.{Act}
 use Rattle.message.specs.declared.Deed.{Deed}
 use Rattle.message.specs.declared.Operation.{Operation}
-use Rattle.tables.specs.Words.{Tables}
+use Rattle.tables.specs.declared.Tables.{Tables}
 use Rattle.tables.specs.Holding.{four}
 use Rattle.tables.specs.Standing.{behind}
 use Rattle.tables.specs.declared.Counts.{Counts}
@@ -26,13 +25,13 @@ use Rattle.tables.specs.declared.Position.{Position}
 use Rattle.keeping.specs.Storing.{Stores}
 use Rattle.forecast.specs.declared.Weight.{Weight}
 use Rattle.deeds.specs.Deeds.{is_insert}
+use Rattle.judging.specs.declared.Refusal.{Refusal}
 use Rattle.judging.specs.declared.Refusal.TheVariants as F
 use Rattle.judging.specs.declared.Readiness.{Readiness}
 use Rattle.judging.specs.declared.Readiness.TheVariants as B
-use Rattle.judging.specs.declared.ReadyJudgement.{ReadyJudgement}
-use Rattle.judging.specs.declared.ReadyJudgement.TheVariants as Y
-use Rattle.judging.specs.declared.Judgement.{Judgement}
-use Rattle.judging.specs.declared.Judgement.TheVariants as J
+use Rattle.judging.specs.Errors.{refusal_of}
+use Rattle.judging.specs.declared.Unfit.{Unfit}
+use Rattle.judging.specs.declared.Unfit.TheVariants as Y
 
 -- the numbers of memory that holds a document, and of an operation on it
 pub record Small (c : Counts) (w : Weight) : Type 0 where
@@ -57,35 +56,41 @@ goes_down deed i hi len = cond (eqb len 17) (cond (ltb hi i) false (is_insert de
 
 -- The verdict on a document.
 
+-- it is ready and may be taken, it comes too early, or it is refused
+abbrev pub Judgement : Type 0
+Judgement = Result Readiness Refusal
+
+-- of an operation that is ready: it may be taken, or it is refused
+abbrev pub ReadyJudgement : Type 0
+ReadyJudgement = Result (Unit {0}) Unfit
+
 abbrev pub is_taken : Judgement → Bool
-is_taken J.Taken = true
-is_taken J.Early = false
-is_taken (J.Refused r) = false
+is_taken (Ok B.Ready) = true
+is_taken (Ok B.Early) = false
+is_taken (Err r) = false
 
 abbrev pub judgement_of : ReadyJudgement → Judgement
-judgement_of Y.Taken = J.Taken
-judgement_of Y.NoElement = J.Refused F.NoElement
-judgement_of Y.NotSmaller = J.Refused F.NotSmaller
-judgement_of Y.NoRoom = J.Refused F.NoRoom
+judgement_of (Ok u) = Ok B.Ready
+judgement_of (Err y) = Err (refusal_of y)
 
 -- 2, 3, 4, and whether it is ready or comes too early
-unfoldable pub by_counters : M.Operation → Document → Readiness
+unfoldable pub by_counters : M.Operation → Document → Judgement
 by_counters o D =
-    cond (not_above o) (B.Refused F.Counter)
-    (cond (repeated D.seen o) (B.Refused F.Repeat)
-    (cond (own_deps_behind D.seen o) (B.Refused F.OwnDeps)
-    (cond (ready_in D o) B.Ready B.Early)))
+    cond (not_above o) (Err F.Counter)
+    (cond (repeated D.seen o) (Err F.Repeat)
+    (cond (own_deps_behind D.seen o) (Err F.OwnDeps)
+    (cond (ready_in D o) (Ok B.Ready) (Ok B.Early))))
 
 -- 8, 9, 10, of an operation that is ready
 unfoldable pub ready_verdict : M.Operation → Document → ReadyJudgement
 ready_verdict o D =
-    cond (astray D o) Y.NoElement (cond (downward o) Y.NotSmaller (cond (fits (apply o D)) Y.Taken Y.NoRoom))
+    cond (astray D o) (Err Y.NoElement) (cond (downward o) (Err Y.NotSmaller) (cond (fits (apply o D)) (Ok tt) (Err Y.NoRoom)))
 
 -- the one, and where it is ready the other
-abbrev pub verdict_by : Readiness → ReadyJudgement → Judgement
-verdict_by B.Ready j = judgement_of j
-verdict_by B.Early j = J.Early
-verdict_by (B.Refused r) j = J.Refused r
+abbrev pub verdict_by : Judgement → ReadyJudgement → Judgement
+verdict_by (Ok B.Ready) y = judgement_of y
+verdict_by (Ok B.Early) y = Ok B.Early
+verdict_by (Err r) y = Err r
 
 unfoldable pub verdict : M.Operation → Document → Judgement
 verdict o D = verdict_by (by_counters o D) (ready_verdict o D)
@@ -95,10 +100,6 @@ verdict o D = verdict_by (by_counters o D) (ready_verdict o D)
 -- an operation that is newer than what was seen of its terminal
 abbrev pub Newer : Document → M.Operation → Type 0
 Newer D o = entry D.seen (entry_of o.id) < counter_of o.id
-
--- the operation that does a at the end of the way with these words, of n keys
-abbrev pub along : Act → List ℕ → ℕ → Operation
-along a ks n = record { act = a; way = record { keys = ks; n = n } }
 
 -- where the search for the way's first key stops, among the rows of the document
 abbrev pub top_position : M.Operation → Document → Position
@@ -113,7 +114,7 @@ Tops T c ks s =
 abbrev pub TopsIn : List ℕ → List ℕ → ℕ → List ℕ → Position → Type 0
 TopsIn h k rows ks s = (m v : List ℕ) (c : Counts) → rows ≡ c.rows → Tops (four h k m v) c ks s
 
-abbrev pub JudgesCounters : Counters → Operation → Readiness → Type 0
+abbrev pub JudgesCounters : Counters → Operation → Judgement → Type 0
 JudgesCounters seen op r = (D : Document) (o : M.Operation) → seen.at ≡ D.seen → Means op o → r ≡ by_counters o D
 
 -- with the stop s, from which the way is looked for

@@ -5,17 +5,18 @@
 mod limits;
 
 ghost use Rattle.std.specs.Prelude.{◌≡◌};
-ghost use Rattle.tables.specs.Holding.{four};
-ghost use Rattle.judging.specs.Judging.{judgement_of, is_taken, along, TopsIn, JudgesCounters, JudgesReady, Judges};
+ghost use Rattle.judging.specs.Judging.{is_taken, TopsIn, JudgesCounters, JudgesReady, Judges};
+ghost use Rattle.judging.specs.Errors.{refusal_of, receive_error, edit_error};
 
+use keeping::Document;
 use limits::{goes_down, has_room, is_small};
-use meaning::Counters;
-use message::{Act, Operation};
+use meaning::{Counters, EditError, ReceiveError};
+use message::Operation;
 use readers::Key;
-use tables::{Counts, Position};
+use tables::{Position, START};
 
 // The refusals of an operation, by name: 2, 3, 4, 8, 9, 10.
-#[derive(Clone, Copy)]
+#[derive(Clone, Copy, PartialEq, Eq)]
 pub enum Refusal {
     Counter,
     Repeat,
@@ -25,166 +26,132 @@ pub enum Refusal {
     NoRoom,
 }
 
-// What the counters say of an operation: it is ready; it comes too early; or 2, 3, 4.
-#[derive(Clone, Copy)]
-pub enum Readiness {
-    Ready,
-    Early,
-    Refused(Refusal),
-}
-
-// What an operation that is ready comes to: it is taken; or 8, 9, 10.
-#[derive(Clone, Copy)]
-pub enum ReadyJudgement {
-    Taken,
+// The refusals of an operation that is ready: 8, 9, 10.
+#[derive(Clone, Copy, PartialEq, Eq)]
+pub enum Unfit {
     NoElement,
     NotSmaller,
     NoRoom,
 }
 
-// What an operation comes to: it is taken; it comes too early; or it is refused.
-#[derive(Clone, Copy)]
-pub enum Judgement {
-    Taken,
+// An operation that isn't refused is ready, or it comes too early.
+#[derive(Clone, Copy, PartialEq, Eq)]
+pub enum Readiness {
+    Ready,
     Early,
-    Refused(Refusal),
 }
 
-// 8, 9, 10, of an operation that is ready and does o; `words` are those of its way, of n keys.
-fn judge_way(
-    heads: &[u64],
-    keys: &[u64],
-    marks: &[u64],
-    values: &[u64],
-    c: Counts,
-    top: Position,
-    o: Act,
-    words: &[u64],
-    n: usize,
-) -> ReadyJudgement
-    ensures { JudgesReady (four heads.now keys.now marks.now values.now) c top
-        (along o words.now n) result }
-{
-    if n > 8 {
-        return ReadyJudgement::NoElement;
+// What an operation comes to: it is ready and may be taken; it comes too early; or it is refused.
+pub type Judgement = Result<Readiness, Refusal>;
+
+impl From<Unfit> for Refusal {
+    ghost from_gives = { λ u r. r ≡ refusal_of u };
+
+    fn from(u: Unfit) -> Refusal {
+        match u {
+            Unfit::NoElement => Refusal::NoElement,
+            Unfit::NotSmaller => Refusal::NotSmaller,
+            Unfit::NoRoom => Refusal::NoRoom,
+        }
     }
-    if n == 0 {
-        return ReadyJudgement::NoElement;
+}
+
+impl From<Refusal> for ReceiveError {
+    ghost from_gives = { λ r e. e ≡ receive_error r };
+
+    fn from(r: Refusal) -> ReceiveError {
+        match r {
+            Refusal::Counter => ReceiveError::Counter,
+            Refusal::Repeat => ReceiveError::Repeat,
+            Refusal::OwnDeps => ReceiveError::OwnDeps,
+            Refusal::NoElement => ReceiveError::NoElement,
+            Refusal::NotSmaller => ReceiveError::NotSmaller,
+            Refusal::NoRoom => ReceiveError::NoRoom,
+        }
     }
-    let end = 3 * n;
-    if end > words.len() {
-        return ReadyJudgement::NoElement;
+}
+
+impl From<Unfit> for EditError {
+    ghost from_gives = { λ u e. e ≡ edit_error u };
+
+    fn from(u: Unfit) -> EditError {
+        match u {
+            Unfit::NoElement => EditError::NoElement,
+            Unfit::NotSmaller => EditError::NotSmaller,
+            Unfit::NoRoom => EditError::NoRoom,
+        }
     }
-    let w = forecast::weigh(heads, keys, marks, values, c.rows, top, o, &words[..end]);
-    if !w.found {
-        return ReadyJudgement::NoElement;
-    }
-    let deed = o.deed;
-    if goes_down(deed, o.id, words[end - 3], words[end - 1]) {
-        return ReadyJudgement::NotSmaller;
-    }
-    if !is_small(c, w) {
-        return ReadyJudgement::NoRoom;
-    }
-    if has_room(c, w) {
-        return ReadyJudgement::Taken;
-    }
-    ReadyJudgement::NoRoom
 }
 
 // 8, 9, 10, of an operation that is ready, from where the search for its first key stops.
-pub fn judge_ready(
-    heads: &[u64],
-    keys: &[u64],
-    marks: &[u64],
-    values: &[u64],
-    c: Counts,
-    top: Position,
-    op: Operation,
-) -> ReadyJudgement
-    ensures { JudgesReady (four heads.now keys.now marks.now values.now) c top op result }
+pub fn judge_ready(d: &Document, top: Position, op: Operation) -> Result<(), Unfit>
+    ensures { JudgesReady d.now.tables d.now.counts top op result }
 {
-    let act = op.act;
-    let way = op.way;
-    let words = way.keys;
-    judge_way(heads, keys, marks, values, c, top, act, &words, way.n)
+    let n = op.way.n;
+    if n == 0 || n > 8 {
+        return Err(Unfit::NoElement);
+    }
+    let words = op.way.keys;
+    let end = 3 * n;
+    let w = forecast::weigh(&d.tables, d.counts.rows, top, &op.act, &words[..end]).ok_or(
+        Unfit::NoElement,
+    )?;
+    if goes_down(op.act.deed, op.act.id, words[end - 3], words[end - 1]) {
+        return Err(Unfit::NotSmaller);
+    }
+    if !is_small(d.counts, w) || !has_room(d.counts, w) {
+        return Err(Unfit::NoRoom);
+    }
+    Ok(())
 }
 
 // 2, 3, 4, and whether it comes too early.
-pub fn judge_counters(seen: Counters, op: Operation) -> Readiness
+pub fn judge_counters(seen: Counters, op: Operation) -> Judgement
     ensures { JudgesCounters seen op result }
 {
-    let act = op.act;
-    let id = act.id;
-    let deps = act.deps;
+    let id = op.act.id;
+    let deps = op.act.deps;
     if counters::not_above(id, deps) {
-        return Readiness::Refused(Refusal::Counter);
+        return Err(Refusal::Counter);
     }
     if counters::repeated(seen, id) {
-        return Readiness::Refused(Refusal::Repeat);
+        return Err(Refusal::Repeat);
     }
     if counters::own_deps_behind(seen, id, deps) {
-        return Readiness::Refused(Refusal::OwnDeps);
+        return Err(Refusal::OwnDeps);
     }
     if counters::ready(seen, id, deps) {
-        return Readiness::Ready;
+        return Ok(Readiness::Ready);
     }
-    Readiness::Early
+    Ok(Readiness::Early)
 }
 
 // Where the search for the way's first key stops: it is the longest, and made once for judging and carrying out.
-pub fn top_of(heads: &[u64], keys: &[u64], rows: usize, op: Operation) -> Position
-    ensures { TopsIn heads.now keys.now rows op.way.keys result }
+pub fn top_of(d: &Document, op: Operation) -> Position
+    ensures { TopsIn d.now.tables.heads d.now.tables.keys d.now.counts.rows op.way.keys result }
 {
-    let way = op.way;
-    let words = way.keys;
-    let first = Position {
-        row: 0,
-        mark: 0,
-        value: 0,
-    };
+    let words = op.way.keys;
     let top = Key {
         hi: words[0],
         lo: words[1],
         len: words[2],
     };
     let w = tables::search_of(1, top);
-    tables::find(heads, keys, rows, first, w)
+    tables::find(&d.tables, d.counts.rows, START, w)
 }
 
 // 2, 3, 4; then, if it is ready, 8, 9, 10.
-pub fn judge(
-    heads: &[u64],
-    keys: &[u64],
-    marks: &[u64],
-    values: &[u64],
-    c: Counts,
-    seen: Counters,
-    op: Operation,
-) -> Judgement
-    ensures { Judges (four heads.now keys.now marks.now values.now) c seen op result }
+pub fn judge(d: &Document, op: Operation) -> Judgement
+    ensures { Judges d.now.tables d.now.counts d.now.seen op result }
 {
-    let readiness = judge_counters(seen, op);
+    let readiness = judge_counters(d.seen, op)?;
     match readiness {
         Readiness::Ready => {
-            let top = top_of(heads, keys, c.rows, op);
-            let j = judge_ready(heads, keys, marks, values, c, top, op);
-            judgement_of(j)
+            let top = top_of(d, op);
+            judge_ready(d, top, op)?;
+            Ok(Readiness::Ready)
         }
-        Readiness::Early => Judgement::Early,
-        Readiness::Refused(r) => Judgement::Refused(r),
-    }
-}
-
-// The judgement on an operation, of that on one that is ready.
-pub fn judgement_of(j: ReadyJudgement) -> Judgement
-    ensures { result ≡ judgement_of j }
-{
-    match j {
-        ReadyJudgement::Taken => Judgement::Taken,
-        ReadyJudgement::NoElement => Judgement::Refused(Refusal::NoElement),
-        ReadyJudgement::NotSmaller => Judgement::Refused(Refusal::NotSmaller),
-        ReadyJudgement::NoRoom => Judgement::Refused(Refusal::NoRoom),
+        Readiness::Early => Ok(Readiness::Early),
     }
 }
 
@@ -192,9 +159,5 @@ pub fn judgement_of(j: ReadyJudgement) -> Judgement
 pub fn is_taken(answer: Judgement) -> bool
     ensures { result ≡ is_taken answer }
 {
-    match answer {
-        Judgement::Taken => true,
-        Judgement::Early => false,
-        Judgement::Refused(_) => false,
-    }
+    matches!(answer, Ok(Readiness::Ready))
 }

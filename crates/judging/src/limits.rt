@@ -22,56 +22,31 @@ const WAY_WORDS: usize = 24;
 pub fn is_small(c: Counts, w: Weight) -> bool
     ensures { holds_if result (Small c w) }
 {
-    if c.rows > ROWS_ROOM {
-        return false;
-    }
-    if c.marks > MARKS_ROOM {
-        return false;
-    }
-    if c.values > VALUES_ROOM {
-        return false;
-    }
-    if w.places > WAY_WORDS {
-        return false;
-    }
-    if w.marks > WAY_WORDS {
-        return false;
-    }
-    if w.values > 1 {
-        return false;
-    }
-    if w.gone_marks > MARKS_ROOM + WAY_WORDS {
-        return false;
-    }
-    if w.gone_values > VALUES_ROOM + 1 {
-        return false;
-    }
-    true
+    c.rows <= ROWS_ROOM
+        && c.marks <= MARKS_ROOM
+        && c.values <= VALUES_ROOM
+        && w.places <= WAY_WORDS
+        && w.marks <= WAY_WORDS
+        && w.values <= 1
+        && w.gone_marks <= MARKS_ROOM + WAY_WORDS
+        && w.gone_values <= VALUES_ROOM + 1
 }
 
 // 10: whether what comes has room, where what goes leaves its own.
+#[tactic(auto, unfolding(crate::specs::Judging::has_room))]
 pub fn has_room(c: Counts, w: Weight) -> bool
     requires { Small c w }
     ensures { result ≡ has_room c w }
 {
-    if c.rows + w.places > PLACES {
-        return false;
-    }
-    if c.marks + w.marks > MARKS + w.gone_marks {
-        return false;
-    }
-    c.values + w.values <= VALUES + w.gone_values
+    c.rows + w.places <= PLACES
+        && c.marks + w.marks <= MARKS + w.gone_marks
+        && c.values + w.values <= VALUES + w.gone_values
 }
 
 // 9: whether a new element comes after one whose id isn't smaller; the words are those of the way's last key.
+#[tactic(auto, unfolding(crate::specs::Judging::goes_down))]
 pub fn goes_down(deed: Deed, id: u64, hi: u64, len: u64) -> bool
     ensures { result ≡ goes_down deed id hi len }
 {
-    if len != ELEMENT {
-        return false;
-    }
-    if hi < id {
-        return false;
-    }
-    deeds::is_insert(deed)
+    len == ELEMENT && hi >= id && deeds::is_insert(deed)
 }

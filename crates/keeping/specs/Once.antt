@@ -1,17 +1,24 @@
--- A terminal is kept by one memory and one state only.
+-- A terminal is kept by one memory only.
 -- Assumes nothing.
-use Rattle.std.specs.Prelude.{ℕ, ◌≡◌, List}
+use Rattle.std.specs.Prelude.{◌≡◌}
 use Rattle.std.proofs.Common.{sym, ◌∙◌}
+use Rattle.meaning.specs.Places.{Document}
 use Rattle.meaning.specs.Receive.{Terminal}
-use Rattle.tables.specs.Words.{Tables}
 use Rattle.tables.specs.Once.{held_once}
+use Rattle.keeping.specs.Storing.{StoresIn}
 use Rattle.keeping.specs.Keeping.{Keeps}
-use Rattle.keeping.specs.declared.State.{State}
+use Rattle.keeping.specs.declared.Document as K
+use Rattle.keeping.specs.declared.Memory.{Memory}
 
-pub keeps_once : {T U : Tables} {t t' : List ℕ} {s s' : State} {X : Terminal} → Keeps T t s X → Keeps U t' s' X
-    → (T ≡ U) × (t ≡ t') × (s ≡ s')
-keeps_once {T} {U} {t} {t'} {s} {s'} p q =
-    let d = held_once T U s.counts s'.counts _ p.document.rows q.document.rows in
-    let n = p.document.counters ∙ sym q.document.counters in
+pub stores_once : {d e : K.Document} {D : Document} → StoresIn d D → StoresIn e D → d ≡ e
+stores_once {d} {e} p q =
+    let h = held_once d.tables e.tables d.counts e.counts _ p.rows q.rows in
+    let n = p.counters ∙ sym q.counters in
+    λ i. record { tables = h.0 i; counts = h.1 i; seen = record { at = n i } }
+
+pub keeps_once : {M N : Memory} {X : Terminal} → Keeps M X → Keeps N X → M ≡ N
+keeps_once {M} {N} p q =
+    let d = stores_once p.document q.document in
+    let t = p.waiting.table ∙ sym q.waiting.table in
     let w = p.waiting.count ∙ sym q.waiting.count in
-    (d.0, p.waiting.table ∙ sym q.waiting.table, λ i. record { counts = d.1 i; seen = record { at = n i }; waiting = w i })
+    λ i. record { document = d i; waiting = t i; count = w i }

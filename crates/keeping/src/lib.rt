@@ -1,29 +1,34 @@
-// A terminal in memory: lent tables hold its document and its waiting operations, and a state by value says how many words are live.
-// Which memory keeps which terminal is in specs/.
+// A terminal in memory: the tables hold its document, one more table its waiting operations, and beside them stands how much of each is
+// live. Which memory keeps which terminal is in specs/.
 #![tactic(auto)]
 
 ghost use Rattle.std.specs.Prelude.{◌≡◌};
 ghost use Rattle.keeping.specs.Keeping.{within_memory};
 
 use meaning::Counters;
-use tables::Counts;
-use waiting::MOST;
+use tables::{Counts, Tables};
+use waiting::{MOST, WAITING};
 
-// What a terminal keeps beside the lent tables.
-#[derive(Clone, Copy)]
-pub struct State {
+// A document in memory: its tables, how many rows, marks and values of them are live, and what was seen.
+#[derive(Drop)]
+pub struct Document {
+    pub tables: Tables,
     pub counts: Counts,
     pub seen: Counters,
-    pub waiting: usize,
 }
 
-// Whether what a state counts has room in the tables.
-pub fn within(s: State) -> bool
-    ensures { result ≡ within_memory s }
+// A terminal in memory: its document, the table of the waiting operations, and how many they are.
+#[derive(Drop)]
+pub struct Memory {
+    pub document: Document,
+    pub waiting: [u64; WAITING],
+    pub count: usize,
+}
+
+// Whether what is counted has room in the tables.
+#[tactic(auto, unfolding(crate::specs::Keeping::within_memory))]
+pub fn within(m: &Memory) -> bool
+    ensures { result ≡ within_memory m.now }
 {
-    if s.waiting > MOST {
-        return false;
-    }
-    let c = s.counts;
-    tables::within(c)
+    m.count <= MOST && tables::within(m.document.counts)
 }

@@ -1,4 +1,4 @@
 -- The laws that proofs of `lines` cite, a file a subject.
 pub mod Texts
-pub mod Spots
 pub mod Words
+pub mod Spots

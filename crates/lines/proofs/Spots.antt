@@ -1,51 +1,45 @@
--- The text of where a place hangs, by what it hangs on.
+-- The line of a place, by what it hangs on.
 -- Assumes nothing.
-use Prim.Native.Nat.{ℕ, ◌+◌, ◌*◌, ◌≤◌}
-use native.Mathlib.Omega.{arith}
-use mathlib.Core.Path.{◌≡◌, refl, ap, ◌∙◌, subst}
-use mathlib.Core.Bool.{Bool, true, false}
-use mathlib.Core.List.{List, [], ◌∷◌, ◌++◌}
-use lib.ListN.{length}
-use Rattle.meaning.specs.Ascii.{byte}
-use Rattle.meaning.specs.Text.{id_text, hex}
-use Rattle.meaning.specs.Sheet.{flags_text, spot_text}
+use Prim.Native.Nat.{ℕ, ◌≤◌}
+use mathlib.Core.Path.{◌≡◌, sym, ap, subst, ◌∙◌}
+use mathlib.Core.Bool.{Bool}
+use mathlib.Core.List.{List, [], ◌∷◌, ◌++◌, append_assoc}
+use Rattle.meaning.specs.Ascii.{ascii, byte}
+use Rattle.meaning.specs.Text.{decimal, id_text, hex}
+use Rattle.meaning.specs.Sheet.{flags_text, spot_text, line_text, place_line}
 use Rattle.writers.specs.Words.{bytes_of}
-use Rattle.lines.specs.Spots.{spot_of, ShortKey, SpotSized}
-use Rattle.writers.specs.Sized.{Sized}
-use Rattle.lines.specs.declared.Spot.{Spot}
-use Rattle.lines.specs.declared.Spot.TheVariants.{Key, Element}
-use Rattle.writers.proofs.Hex.{size_hex}
+use Rattle.lines.specs.Spots.{spot_of, ShortKey}
+use Rattle.readers.specs.declared.Key.{Key as KeyWords}
+use Rattle.lines.specs.declared.place.Spot.{Spot}
+use Rattle.lines.specs.declared.place.Spot.TheVariants.{Key, Element}
 
--- a branch and a flag, then the key or the id
 module _ {p : Spot} {flags : List ℕ} {f : ℕ} (one : flags ≡ f ∷ []) where
-  pub key_spot : {hi lo len : ℕ} → p ≡ Key hi lo len
-      → spot_text (spot_of p) flags ≡ (byte "{" ∷ f ∷ []) ++ hex (bytes_of (hi ∷ lo ∷ []) len)
+  key_spot : {k : KeyWords} → p ≡ Key k
+      → spot_text (spot_of p) flags ≡ (byte "{" ∷ f ∷ []) ++ hex (bytes_of (k.hi ∷ k.lo ∷ []) k.len)
   unfolding spot_text
-  key_spot {hi} {lo} {len} e =
-      ap (λ q. spot_text (spot_of q) flags) e ∙ ap (λ l. byte "{" ∷ (l ++ hex (bytes_of (hi ∷ lo ∷ []) len))) one
+  key_spot {k} e = ap (λ q. spot_text (spot_of q) flags) e ∙ ap (λ l. byte "{" ∷ (l ++ hex (bytes_of (k.hi ∷ k.lo ∷ []) k.len))) one
 
-  pub element_spot : {id : ℕ} → p ≡ Element id → spot_text (spot_of p) flags ≡ (byte "[" ∷ f ∷ []) ++ id_text id
+  element_spot : {id : ℕ} → p ≡ Element id → spot_text (spot_of p) flags ≡ (byte "[" ∷ f ∷ []) ++ id_text id
   unfolding spot_text
   element_spot {id} e = ap (λ q. spot_text (spot_of q) flags) e ∙ ap (λ l. byte "[" ∷ (l ++ id_text id)) one
 
-pub key_short : {p : Spot} {hi lo len : ℕ} → p ≡ Key hi lo len → ShortKey p → len ≤ 16
+-- a place's line is its lead, its depth and where it hangs, and an LF
+place_parts : (n : ℕ) (p : Spot) (m l : Bool) {t : List ℕ} → spot_text (spot_of p) (flags_text m l) ≡ t
+    → line_text (place_line n (spot_of p) m l) ≡ ascii "place=" ++ ((decimal n ++ t) ++ ascii "\n")
+unfolding line_text
+place_parts n p m l {t} e =
+    ap (λ u. ascii "place=" ++ (decimal n ++ (u ++ ascii "\n"))) e
+    ∙ ap (λ u. ascii "place=" ++ u) (sym (append_assoc (decimal n) t (ascii "\n")))
+
+pub key_short : {p : Spot} {k : KeyWords} → p ≡ Key k → ShortKey p → k.len ≤ 16
 key_short e h = subst ShortKey e h
 
--- one flag
-flags_one : (m l : Bool) → (f : ℕ) × (flags_text m l ≡ f ∷ [])
-flags_one false false = (byte "-", refl)
-flags_one true false = (byte "m", refl)
-flags_one false true = (byte "l", refl)
-flags_one true true = (byte "b", refl)
+module _ (n : ℕ) {p : Spot} (m l : Bool) {f : ℕ} (one : flags_text m l ≡ f ∷ []) where
+  pub key_line : {k : KeyWords} → p ≡ Key k
+      → line_text (place_line n (spot_of p) m l)
+      ≡ ascii "place=" ++ ((decimal n ++ ((byte "{" ∷ f ∷ []) ++ hex (bytes_of (k.hi ∷ k.lo ∷ []) k.len))) ++ ascii "\n")
+  key_line e = place_parts n p m l (key_spot one e)
 
-pub key_sized : {p : Spot} {hi lo len : ℕ} → p ≡ Key hi lo len → ShortKey p → SpotSized p (2 + 2 * len)
-key_sized {p} {hi} {lo} {len} e h = record {
-  size = λ m l. omega (arith, ap length (key_spot (flags_one m l).1 e), size_hex (hi ∷ lo ∷ []) len);
-  most = omega (arith, key_short e h);
-}
-
-pub element_sized : {p : Spot} {id n : ℕ} → p ≡ Element id → Sized (id_text id) 41 n → SpotSized p (2 + n)
-element_sized e s = record {
-  size = λ m l. omega (arith, ap length (element_spot (flags_one m l).1 e), s.size);
-  most = omega (arith, s.most);
-}
+  pub element_line : {id : ℕ} → p ≡ Element id
+      → line_text (place_line n (spot_of p) m l) ≡ ascii "place=" ++ ((decimal n ++ ((byte "[" ∷ f ∷ []) ++ id_text id)) ++ ascii "\n")
+  element_line e = place_parts n p m l (element_spot one e)

@@ -18,7 +18,7 @@ use Rattle.readers.specs.Words.{weight, pack, words_of, plain_words}
 use Rattle.readers.specs.Order.{weight_some, pack_small, bytes_drop}
 use Rattle.writers.specs.Words.{byte_of, bytes_of}
 use Rattle.writers.specs.Held.{kind_in, plain_of, plain_in}
-use Rattle.writers.specs.declared.Kind.TheVariants.{String}
+use Rattle.writers.specs.declared.plain.Kind.TheVariants.{String}
 
 weight_pow : (m : ℕ) → weight m ≡ 256 ^ m
 unfolding weight

@@ -2,22 +2,22 @@
 -- Assumes nothing.
 use Prim.Native.Nat.{ℕ, ◌≤◌, ◌<◌}
 use native.Mathlib.Omega.{arith}
-use mathlib.Core.Path.{◌≡◌, refl, sym, ap, ◌∙◌, subst}
+use mathlib.Core.Path.{◌≡◌, refl, sym, ◌∙◌, subst}
 use mathlib.Core.List.{List}
+use Rattle.std.specs.Prelude.{Ok, Err}
 use borrow.Author.Tests.{lt-ltb, le-ltb}
 use lib.ListN.{length}
 use Rattle.meaning.specs.Places.{Place}
 use Rattle.meaning.specs.Read.{Finding, not_there, unmarked, listed, answer_read}
-use Rattle.meaning.specs.Answers.{reading_answer, Refusal}
-use Rattle.meaning.specs.declared.Reading.{Reading}
-use Rattle.meaning.specs.declared.Reading.TheVariants.{Written, NotThere, ShortBuffer}
+use Rattle.meaning.specs.Answers.{Reading, Refusal}
+use Rattle.meaning.specs.declared.ReadError.TheVariants.{NotThere, ShortBuffer}
 use Rattle.theorems.specs.Decide.{Tri, less, same, more, tri}
 use Rattle.decimal.specs.Take.{Wrote}
 use Rattle.listings.specs.Lists.{Answers, Lists}
 
 module _ (text before : List ℕ) where
   -- 13
-  pub too_short : {n : ℕ} → n ≡ length text → length before < n → Answers (listed text) before (ShortBuffer n) before
+  pub too_short : {n : ℕ} → n ≡ length text → length before < n → Answers (listed text) before (Err (ShortBuffer n)) before
   unfolding answer_read
   too_short {n} e l =
       let h : length before < length text = omega arith in
@@ -25,7 +25,7 @@ module _ (text before : List ℕ) where
 
   -- 0
   pub written : {n : ℕ} {after : List ℕ} → length text ≤ length before → Wrote text before after n
-      → Answers (listed text) before (Written n) after
+      → Answers (listed text) before (Ok n) after
   unfolding answer_read
   written {n} {after} l w = record {
     answers = rw (le-ltb (length before) (length text) l, w.size);
@@ -33,7 +33,7 @@ module _ (text before : List ℕ) where
   }
 
 -- 14
-pub not_there_lem : (before : List ℕ) → Answers not_there before NotThere before
+pub not_there_lem : (before : List ℕ) → Answers not_there before (Err NotThere) before
 unfolding answer_read
 not_there_lem before = record { answers = refl; writes = refl }
 

@@ -1,14 +1,13 @@
 -- The keys of a place: what is read of a row, how many rows its map has, and that the text is the one that document 01 reads.
 -- Assumes nothing.
 use Prim.Native.Nat.{ℕ, zero, suc, ◌+◌, ◌*◌, ◌-◌, ◌≤◌, ◌<◌}
-use native.Mathlib.Numerals.{add-one}
 use native.Mathlib.Omega.{arith}
 use mathlib.Core.Path.{◌≡◌, refl, sym, ap, ap₂, ◌∙◌, subst}
 use mathlib.Core.Bool.{Bool, true, false, cond, ◌&&◌}
 use mathlib.Core.List.{List, [], ◌∷◌, ◌++◌}
 use borrow.Author.Tests.{le-ltb}
 use lib.Dec.{ltb, eqb}
-use lib.ListN.{length, get_or, length-append}
+use lib.ListN.{length}
 use Rattle.meaning.specs.Places.{Place, children_of}
 use Rattle.meaning.specs.Read.{keys_text}
 use Rattle.meaning.specs.Sheet.{Spot, in_map, in_list, Row, rows}
@@ -16,16 +15,15 @@ use Rattle.rows.specs.Blocks.{passed, rest, in_a_map, over}
 use Rattle.rows.specs.Balanced.{passed-rest}
 use Rattle.rows.specs.Listing.{is_read, read_under, key_picked, keys_under}
 use Rattle.readers.specs.declared.Key.{Key}
-use Rattle.decimal.specs.Take.{Wrote}
 use Rattle.writers.specs.Sized.{Sized}
 use Rattle.writers.specs.Words.{bytes_of}
 use Rattle.writers.specs.Texts.{texts}
-use Rattle.writers.proofs.Over.{wrote_none, wrote_as}
-use Rattle.writers.proofs.Runs.{sized_as, sized_more}
+use Rattle.writers.proofs.Texts.{sized-of}
+use Rattle.writers.proofs.Runs.{sized_more}
 use Rattle.lines.specs.Rows.{key_row}
 use Rattle.lines.proofs.Texts.{key_text_lem}
 use Rattle.lines.proofs.Words.{key_back}
-use Rattle.tables.specs.Words.{side, head_word, spot_words}
+use Rattle.tables.specs.Words.{hangs, spot_words}
 use Rattle.tables.specs.Heads.{head_in, key_in, key_at}
 use Rattle.tables.specs.Finds.{GoodSpot}
 use Rattle.tables.specs.Holding.{Holds, four}
@@ -33,14 +31,15 @@ use Rattle.tables.specs.Parts.{narrow_at}
 use Rattle.tables.specs.Stands.{head_at_lem, key_at_lem}
 use Rattle.tables.specs.declared.Counts.{Counts}
 use Rattle.tables.specs.declared.Head.{Head}
-use Rattle.listings.specs.declared.Extent.{Extent}
-use Rattle.listings.specs.Texts.{head_of, is_listed, of_map, map_rows, short_of, key_bytes, key_of, key_text, keys_from, Extends}
+use Rattle.tables.specs.declared.Side.{Side}
+use Rattle.tables.specs.declared.Side.TheVariants as S
+use Rattle.listings.specs.Texts.{same_side, head_of, is_listed, of_map, map_rows, short_of, key_bytes, key_of, key_text, keys_from, Extends}
 use Rattle.listings.specs.Lists.{Under}
 use Rattle.listings.proofs.Tests.{listed_row, map_row_lem}
 use Rattle.listings.proofs.Places.{behind-one, one_on, under_count}
 
 -- What is read of a row, of the words that were read.
-module _ (h : Head) (keys : List ℕ) (d row : ℕ) {b : Bool} (t : b ≡ is_listed d 0 h) where
+module _ (h : Head) (keys : List ℕ) (d row : ℕ) {b : Bool} (t : b ≡ is_listed d S.Map h) where
   -- its key
   pub key_here : b ≡ true → {k : Key} {n : ℕ} → k ≡ key_at keys row → n ≡ short_of k.len
       → key_row (bytes_of (k.hi ∷ k.lo ∷ []) n) ≡ key_of h keys d row
@@ -48,16 +47,9 @@ module _ (h : Head) (keys : List ℕ) (d row : ℕ) {b : Bool} (t : b ≡ is_lis
   key_here y e s = rw (sym t ∙ y, s, e)
 
   -- nothing
-  module _ (y : b ≡ false) where
-    nothing_here : [] ≡ key_of h keys d row
-    unfolding key_of
-    nothing_here = rw (sym t ∙ y)
-
-    pub no_size : Sized (key_of h keys d row) 33 0
-    no_size = sized_as nothing_here (record { size = refl; most = omega arith })
-
-    pub no_key : (before : List ℕ) → Wrote (key_of h keys d row) before before 0
-    no_key before = wrote_as nothing_here (wrote_none before)
+  pub nothing_here : b ≡ false → [] ≡ key_of h keys d row
+  unfolding key_of
+  nothing_here y = rw (sym t ∙ y)
 
 -- of the row whose head was read
 pub key_of_lem : (heads keys : List ℕ) (d row : ℕ) {h : Head} → h ≡ head_of heads row → key_of h keys d row ≡ key_text heads keys d row
@@ -89,44 +81,55 @@ module _ (heads : List ℕ) (d : ℕ) where
       by_test true h = omega arith
       by_test false h = omega arith
 
--- On the way over the rows: n are of the map, with keys of this size, and `left` are still to come.
+-- On the way over the rows from `from` on, at row i: all before it are of the map, with keys of this size.
 module _ (heads keys : List ℕ) (d : ℕ) where
-  pub record Going (rows from n size left : ℕ) : Type 0 where
-    pub count : map_rows heads d from (rows - from) ≡ n + map_rows heads d (from + n) left
-    pub few : n + left ≡ rows - from
-    pub sized : Sized (keys_from heads keys d from n) (33 * n) size
+  pub record Going (rows from i size : ℕ) : Type 0 where
+    pub low : from ≤ i
+    pub high : i ≤ rows
+    pub count : map_rows heads d from (rows - from) ≡ (i - from) + map_rows heads d i (rows - i)
+    pub sized : Sized (keys_from heads keys d from (i - from)) (33 * (i - from)) size
 
-  pub going_none : (rows from : ℕ) → Going rows from 0 0 (rows - from)
+  pub going_none : (rows from : ℕ) → from ≤ rows → Going rows from from 0
   unfolding texts
-  going_none rows from =
-      let e : from ≡ from + 0 = omega arith in
+  going_none rows from l =
+      let e : from - from ≡ 0 = omega arith in
       record {
-        count = omega (arith, ap (λ i. map_rows heads d i (rows - from)) e);
-        few = omega arith;
-        sized = record { size = refl; most = omega arith };
+        low = omega arith;
+        high = l;
+        count = omega arith;
+        sized = rw e (record { size = refl; most = omega arith });
       }
 
-  module _ {rows from n size left : ℕ} (g : Going rows from n size left) where
+  module _ {rows from i size : ℕ} (g : Going rows from i size) where
     -- the row here, whose head was read
-    module _ {h : Head} (e : h ≡ head_of heads (from + n)) {b : Bool} (t : b ≡ of_map d h) where
-      here : of_map d (head_of heads (from + n)) ≡ b
+    module _ (l : i < rows) {h : Head} (e : h ≡ head_of heads i) {b : Bool} (t : b ≡ of_map d h) where
+      here : of_map d (head_of heads i) ≡ b
       here = ap (of_map d) (sym e) ∙ sym t
 
-      pub going_on : 0 < left → b ≡ true → {m : ℕ} → Sized (key_of h keys d (from + n)) 33 m
-          → Going rows from (n + 1) (size + m) (left - 1)
-      going_on l y z =
-          let a : from + n + 1 ≡ from + (n + 1) = omega arith in
+      pub going_on : b ≡ true → {m limit : ℕ} → Sized (key_of h keys d i) limit m → limit ≤ 33 → Going rows from (i + 1) (size + m)
+      going_on y {m} z w =
+          let a : i + 1 - from ≡ i - from + 1 = omega (arith, g.low) in
+          let p : from + (i - from) ≡ i = omega (arith, g.low) in
+          let q : rows - i - 1 ≡ rows - (i + 1) = omega arith in
+          let k : Sized (key_text heads keys d (from + (i - from))) 33 m =
+          rw p (sized-of (sym (key_of_lem heads keys d i e)) w z) in
           record {
-            count = omega (arith, g.count, map_more heads d (from + n) left l (here ∙ y), ap (λ i. map_rows heads d i (left - 1)) a);
-            few = omega (arith, g.few);
-            sized = sized_more (key_text heads keys d) from n 33 g.sized (sized_as (key_of_lem heads keys d (from + n) e) z);
+            low = omega (arith, g.low);
+            high = omega arith;
+            count = omega (arith, g.low, g.count, map_more heads d i (rows - i) (omega arith) (here ∙ y), ap (map_rows heads d (i + 1)) q);
+            sized = rw a (sized_more (key_text heads keys d) from (i - from) 33 g.sized k);
           }
 
-      pub going_stop : b ≡ false → Extends heads keys rows from d (record { rows = n; size = size })
-      going_stop y = record { span = omega (arith, g.count, map_stop heads d (from + n) left (here ∙ y)); sized = g.sized }
+      pub going_stop : b ≡ false → Extends heads keys rows from d (record { rows = i - from; size = size })
+      going_stop y = record { span = omega (arith, g.count, map_stop heads d i (rows - i) (here ∙ y)); sized = g.sized }
 
-    pub going_all : left ≤ 0 → Extends heads keys rows from d (record { rows = n; size = size })
-    going_all l = record { span = omega (arith, g.count, map_end heads d (from + n) left l); sized = g.sized }
+    pub going_all : rows ≤ i → Extends heads keys rows from d (record { rows = rows - from; size = size })
+    going_all l =
+        let e : i ≡ rows = omega (arith, g.high) in
+        record {
+          span = omega (arith, g.count, map_end heads d i (rows - i) (omega arith));
+          sized = rw (sym e) g.sized;
+        }
 
 -- Of tables that hold rows.
 short_key : (k : List ℕ) → length k ≤ 16 → short_of (length k) ≡ length k
@@ -137,7 +140,7 @@ key_is : (k : List ℕ) → GoodSpot (in_map k) → key_bytes (key_in (spot_word
 key_is k g = rw (short_key k g.short) (key_back k g)
 
 picked : (a b : Bool) (p : Spot) → GoodSpot p
-    → cond (a && (eqb (side p) 0 && b)) (key_row (key_bytes (key_in (spot_words p)))) [] ≡ cond (a && b) (key_picked p) []
+    → cond (a && (same_side (hangs p) S.Map && b)) (key_row (key_bytes (key_in (spot_words p)))) [] ≡ cond (a && b) (key_picked p) []
 picked a b (in_map k) g = ap (λ t. cond (a && b) t []) (ap key_row (key_is k g) ∙ key_text_lem k)
 picked true true (in_list i) g = refl
 picked true false (in_list i) g = refl
@@ -152,8 +155,8 @@ module _ (h k m v : List ℕ) (c : Counts) (d : ℕ) where
   unfolding key_of
   row_read A r R H =
       let n = narrow_at (four h k m v) c A r R H in
-      ap₂ (λ w t. cond (is_listed d 0 (head_in w)) (key_row (key_bytes t)) []) (head_at_lem h k m v c A R r H) (key_at_lem h k m v c A R r H)
-      ∙ (ap (λ b. cond b (key_row (key_bytes (key_in (spot_words r.spot)))) []) (listed_row r n d 0)
+      ap₂ (λ w t. cond (is_listed d S.Map (head_in w)) (key_row (key_bytes t)) []) (head_at_lem h k m v c A R r H) (key_at_lem h k m v c A R r H)
+      ∙ (ap (λ b. cond b (key_row (key_bytes (key_in (spot_words r.spot)))) []) (listed_row r n d S.Map)
       ∙ picked (eqb r.depth (suc d)) (ltb 0 (length r.marks)) r.spot n.spot)
 
   rows_read : (A B R : List Row) → Held (A ++ (B ++ R)) → keys_from h k d (length A) (length B) ≡ read_under key_picked d B

@@ -4,7 +4,7 @@ use Prim.Native.Nat.{ℕ, ◌+◌, ◌≤◌}
 use native.Mathlib.Omega.{arith}
 use mathlib.Core.Path.{◌≡◌, refl, sym, ap, ap₂, ◌∙◌}
 use mathlib.Core.List.{List, [], ◌∷◌, ◌++◌}
-use lib.ListN.{length, get_or}
+use lib.ListN.{length}
 use Rattle.meaning.specs.Places as places
 use Rattle.meaning.specs.Places.{Place, place, values_of}
 use Rattle.meaning.specs.Members.{All}
@@ -16,7 +16,7 @@ use Rattle.writers.proofs.Runs.{texts_of}
 use Rattle.lines.specs.Rows.{value_of, value_row}
 use Rattle.lines.proofs.Texts.{values_more}
 use Rattle.lines.proofs.Words.{plain_back}
-use Rattle.tables.specs.Heads.{head_in, value_at, values-said}
+use Rattle.tables.specs.Heads.{head_in, values-said}
 use Rattle.tables.specs.Finds.{values_in_lem}
 use Rattle.tables.specs.Holding.{four}
 use Rattle.tables.specs.Parts.{at-behind, narrow_at}
@@ -25,14 +25,8 @@ use Rattle.tables.specs.Stands.{head_at_lem}
 use Rattle.tables.specs.Values.{ValuesStand, value_first, value_next, values_stand}
 use Rattle.tables.specs.declared.Head.{Head}
 use Rattle.tables.specs.declared.Position.{Position}
-use Rattle.tables.specs.declared.Value.{Value}
 use Rattle.listings.specs.Texts.{head_of, value_text, values_from}
 use Rattle.listings.specs.Lists.{Owns}
-
--- the value that was read
-pub value_here : (lead values : List ℕ) (i : ℕ) {v : Value} → v ≡ value_at values i
-    → value_text lead values i ≡ lead ++ value_row (value_of v.id v.kind v.words)
-value_here lead values i e = rw e
 
 -- values that stand in the table
 module _ (table : List ℕ) where

@@ -6,7 +6,7 @@ use Rattle.meaning.specs.Places.{Place, children_of, elements_of, values_of}
 use Rattle.meaning.specs.Sheet.{Spot, Row, row_of, rows}
 use Rattle.meaning.specs.Read.{Finding, listed, keys_text, values_text, present_ids, nth_text, answer_read}
 use Rattle.meaning.specs.Answers.{reading_answer, Refusal}
-use Rattle.meaning.specs.declared.Reading.{Reading}
+use Rattle.meaning.specs.Answers.{Reading}
 use Rattle.rows.specs.Spans.{Shallow}
 use Rattle.tables.specs.Standing.{behind}
 use Rattle.tables.specs.Holding.{Holds, four}

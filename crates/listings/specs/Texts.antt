@@ -3,7 +3,8 @@
 -- words count as 0, and a key that is too long as the empty one, as in the sheet (crate `sheet`, specs/Texts). specs/Lists says that of
 -- tables that hold a document's rows this is what document 01 reads.
 -- Assumes nothing: these are definitions.
-use Rattle.std.specs.Prelude.{ℕ, zero, suc, ◌+◌, ◌*◌, ◌-◌, ◌<◌, ◌≡◌, Bool, cond, ◌&&◌, ◌||◌, List, [], ◌∷◌, ◌++◌, ltb, eqb, get_or}
+use Rattle.std.specs.Prelude.{ℕ, zero, suc, ◌+◌, ◌*◌, ◌-◌, ◌<◌, ◌≡◌, Bool, true, false, cond, ◌&&◌, ◌||◌, Option, Some, None}
+use Rattle.std.specs.Prelude.{List, [], ◌∷◌, ◌++◌, ltb, eqb, get_or}
 use Rattle.readers.specs.declared.Key.{Key}
 use Rattle.writers.specs.Words.{bytes_of}
 use Rattle.writers.specs.Sized.{Sized}
@@ -12,23 +13,29 @@ use Rattle.lines.specs.Rows.{key_row, value_of, value_row}
 use Rattle.tables.specs.Heads.{head_in, key_at, value_at}
 use Rattle.tables.specs.Holding.{heads_room}
 use Rattle.tables.specs.declared.Head.{Head}
+use Rattle.tables.specs.declared.Side.{Side}
+use Rattle.tables.specs.declared.Side.TheVariants as S
 use Rattle.listings.specs.declared.Extent.{Extent}
-use Rattle.listings.specs.declared.Nth.{Nth}
-use Rattle.listings.specs.declared.Nth.TheVariants.{At, Nowhere}
 
 -- what the head of row i says
 abbrev pub head_of : List ℕ → ℕ → Head
 head_of heads i = head_in (get_or heads i 0)
 
 -- a row right under a place of depth d, in the branch of this side, with a mark
-unfoldable pub is_listed : ℕ → ℕ → Head → Bool
-is_listed d side h = eqb h.depth (suc d) && (eqb h.side side && ltb 0 h.marks)
+abbrev pub same_side : Side → Side → Bool
+same_side S.Map S.Map = true
+same_side S.Map S.List = false
+same_side S.List S.Map = false
+same_side S.List S.List = true
+
+unfoldable pub is_listed : ℕ → Side → Head → Bool
+is_listed d side h = eqb h.depth (suc d) && (same_side h.side side && ltb 0 h.marks)
 
 -- Keys.
 
 -- a row of the map: deeper than what is right under the place, or right under it by a key
 unfoldable pub of_map : ℕ → Head → Bool
-of_map d h = ltb (suc d) h.depth || (eqb h.depth (suc d) && eqb h.side 0)
+of_map d h = ltb (suc d) h.depth || (eqb h.depth (suc d) && same_side h.side S.Map)
 
 -- how many of the `left` rows from row i on are rows of the map, up to the first that isn't
 unfoldable pub map_rows : List ℕ → ℕ → ℕ → ℕ → ℕ
@@ -44,7 +51,7 @@ key_bytes k = bytes_of (k.hi ∷ k.lo ∷ []) (short_of k.len)
 
 -- what is read of row i, whose head is h; of row i; and of n rows from row i on
 unfoldable pub key_of : Head → List ℕ → ℕ → ℕ → List ℕ
-key_of h keys d i = cond (is_listed d 0 h) (key_row (key_bytes (key_at keys i))) []
+key_of h keys d i = cond (is_listed d S.Map h) (key_row (key_bytes (key_at keys i))) []
 
 abbrev pub key_text : List ℕ → List ℕ → ℕ → ℕ → List ℕ
 key_text heads keys d i = key_of (head_of heads i) keys d i
@@ -69,20 +76,20 @@ values_from lead values = texts (value_text lead values) (λ i. i + 1)
 -- among `left` rows, up to the first that isn't under the place.
 
 unfoldable pub still_of : ℕ → Head → ℕ → ℕ
-still_of d h n = cond (is_listed d 1 h) (n - 1) n
+still_of d h n = cond (is_listed d S.List h) (n - 1) n
 
-unfoldable pub nth_row : List ℕ → ℕ → ℕ → ℕ → ℕ → Nth
-nth_row heads d n i zero = Nowhere
+unfoldable pub nth_row : List ℕ → ℕ → ℕ → ℕ → ℕ → Option ℕ
+nth_row heads d n i zero = None
 nth_row heads d n i (suc left) =
     cond (ltb d (head_of heads i).depth)
-    (cond (eqb (still_of d (head_of heads i) n) 0) (At i) (nth_row heads d (still_of d (head_of heads i) n) (i + 1) left))
-    Nowhere
+    (cond (eqb (still_of d (head_of heads i) n) 0) (Some i) (nth_row heads d (still_of d (head_of heads i) n) (i + 1) left))
+    None
 
 -- one of the rows that have room in the tables
-abbrev pub Near : Nth → Type 0
-Near (At row) = row < heads_room
-Near Nowhere = Unit {0}
+abbrev pub Near : Option ℕ → Type 0
+Near (Some row) = row < heads_room
+Near None = Unit {0}
 
-pub record IsNth (heads : List ℕ) (rows from d index : ℕ) (r : Nth) : Type 0 where
+pub record IsNth (heads : List ℕ) (rows from d index : ℕ) (r : Option ℕ) : Type 0 where
   pub is : r ≡ nth_row heads d index from (rows - from)
   pub near : Near r

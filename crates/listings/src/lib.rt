@@ -8,16 +8,17 @@ mod list;
 mod map;
 mod plain;
 
-ghost use Rattle.lines.specs.Rows.{id_row};
+ghost use Rattle.std.specs.Prelude.{◌≡◌, ◌<◌};
 ghost use Rattle.meaning.specs.Read.{listed};
 ghost use Rattle.listings.specs.Lists.{Answers, ListsKeys, ListsValues, ListsElement};
 
-use lines::{id_row_size, put_id_row};
+use lines::id_row;
 use list::nth_row;
-use map::{extent, put_keys};
-use meaning::Reading;
-pub use plain::{put_values, values_size};
-use tables::{Position, ROWS_ROOM, VALUES_ROOM, head_at, key_at};
+use map::{extent, keys_of};
+use meaning::{ReadError, Reading};
+pub use plain::{Values, values_of};
+use tables::{Position, ROWS_ROOM, Tables, VALUES_ROOM, head_at, key_at};
+use writers::Text;
 
 // The rows of a place's map, and how many bytes its keys take.
 #[derive(Clone, Copy)]
@@ -26,104 +27,64 @@ pub struct Extent {
     pub size: usize,
 }
 
-// Where the n-th element stands.
-#[derive(Clone, Copy)]
-pub enum Nth {
-    At { row: usize },
-    Nowhere,
-}
-
 // The keys of a place of this depth, whose own row stands right before `from`; of the root that is depth 0 from row 0 on. One pass over the
 // rows of its map finds their size and where they end, a second writes them. Of counts that have no room in the tables nothing is there.
-pub fn keys(
-    buf: &mut [u8],
-    heads: &[u64],
-    keys: &[u64],
-    rows: usize,
-    from: usize,
-    depth: u64,
-) -> Reading
-    ensures { ListsKeys heads.now keys.now rows from depth buf.old result buf.new }
+pub fn keys(buf: &mut [u8], t: &Tables, rows: usize, from: usize, depth: u64) -> Reading
+    ensures { ListsKeys t.now.heads t.now.keys rows from depth buf.old result buf.new }
 {
-    if rows > ROWS_ROOM {
-        return Reading::NotThere;
+    if rows > ROWS_ROOM || from > rows {
+        return Err(ReadError::NotThere);
     }
-    if from > rows {
-        return Reading::NotThere;
-    }
-    let e = extent(heads, keys, rows, from, depth);
+    let e = extent(t, rows, from, depth);
     let needed = e.size;
     if buf.len() < needed {
-        return Reading::ShortBuffer { needed };
+        return Err(ReadError::ShortBuffer { needed });
     }
-    let written = put_keys(buf, heads, keys, from, e.rows, depth);
-    Reading::Written { written }
+    Ok(keys_of(t, depth, from, e.rows).put(buf))
 }
 
-// The values of the place whose own row stands at `at`, as many as its head says.
+// A text that is read.
+fn give<T: Text>(buf: &mut [u8], x: &T) -> Reading
+    requires { T.Valid x.now × (T.most x.now < 18446744073709551616) }
+    ensures { Answers (listed (T.text x.now)) buf.old result buf.new }
+{
+    let needed = x.size();
+    if buf.len() < needed {
+        return Err(ReadError::ShortBuffer { needed });
+    }
+    Ok(x.put(buf))
+}
+
+// The values of the place whose own row stands at `at`, as many as its head says. It is lent the two tables that it reads and not all four,
+// since the edit `values_of_another_table` of `reads` exchanges one of them.
 pub fn values(buf: &mut [u8], heads: &[u64], values: &[u64], at: Position) -> Reading
     ensures { ListsValues heads.now values.now at buf.old result buf.new }
 {
-    let first = at.value;
-    if first > VALUES_ROOM {
-        return Reading::NotThere;
+    if at.value > VALUES_ROOM {
+        return Err(ReadError::NotThere);
     }
-    let powers = decimal::powers();
     let h = head_at(heads, at.row);
-    let n = h.values;
-    let needed = values_size(values, first, n, b"", &powers);
-    if buf.len() < needed {
-        return Reading::ShortBuffer { needed };
-    }
-    let written = put_values(buf, values, first, n, b"", &powers);
-    Reading::Written { written }
-}
-
-// An element's id.
-fn give_id(buf: &mut [u8], id: u64) -> Reading
-    ensures { Answers (listed (id_row id)) buf.old result buf.new }
-{
-    let powers = decimal::powers();
-    let needed = id_row_size(id, &powers);
-    if buf.len() < needed {
-        return Reading::ShortBuffer { needed };
-    }
-    let written = put_id_row(buf, id, &powers);
-    Reading::Written { written }
+    give(buf, &values_of(*b"", values, at.value, h.values))
 }
 
 // The element of this index, from 1, among the present elements of a place of this depth, whose own row stands right before `from`. The
 // rows are looked at up to that element, or to the first row that isn't under the place.
 pub fn element(
     buf: &mut [u8],
-    heads: &[u64],
-    keys: &[u64],
+    t: &Tables,
     rows: usize,
     from: usize,
     depth: u64,
     index: u64,
 ) -> Reading
-    ensures { ListsElement heads.now keys.now rows from depth index buf.old result
+    ensures { ListsElement t.now.heads t.now.keys rows from depth index buf.old result
         buf.new }
 {
-    if rows > ROWS_ROOM {
-        return Reading::NotThere;
+    if rows > ROWS_ROOM || from > rows || index == 0 {
+        return Err(ReadError::NotThere);
     }
-    if rows > heads.len() {
-        return Reading::NotThere;
-    }
-    if from > rows {
-        return Reading::NotThere;
-    }
-    if index == 0 {
-        return Reading::NotThere;
-    }
-    let found = nth_row(heads, rows, from, depth, index);
-    match found {
-        Nth::At { row } => {
-            let key = key_at(keys, row);
-            give_id(buf, key.hi)
-        }
-        Nth::Nowhere => Reading::NotThere,
+    match nth_row(t, rows, from, depth, index) {
+        Some(row) => give(buf, &id_row(key_at(&t.keys, row).hi)),
+        None => Err(ReadError::NotThere),
     }
 }

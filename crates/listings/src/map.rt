@@ -1,28 +1,26 @@
 // The keys of a place, of the rows of its map.
-ghost use Rattle.std.specs.Prelude.{◌≡◌, ◌+◌, ◌*◌, ◌≤◌, ◌<◌, length};
-ghost use Rattle.decimal.specs.Take.{Wrote};
-ghost use Rattle.writers.specs.Sized.{Sized};
+ghost use Rattle.std.specs.Prelude.{ℕ, suc, List, ◌≡◌, ◌+◌, ◌*◌, ◌≤◌, ◌<◌, length};
+ghost use Rattle.std.proofs.Common.{arith};
 ghost use Rattle.tables.specs.Holding.{heads_room};
-ghost use Rattle.listings.specs.Texts.{of_map, short_of, key_of, keys_from, Extends};
+ghost use Rattle.listings.specs.Texts.{of_map, short_of, key_of, key_text, keys_from, Extends};
 
 use crate::Extent;
 use crate::list::is_listed;
-use lines::{key_row_size, put_key_row};
-use readers::LONGEST;
-use tables::{Head, MAP, head_at, key_at};
+use lines::{Row, key_row};
+use readers::{Key, LONGEST};
+use tables::{Head, Side, Tables, head_at, key_at};
+use writers::{Hex, Many, Pieces, Text};
 
 // Whether a row is one of the map of a place of this depth: it hangs right under it by a key, or deeper.
+#[tactic(auto, unfolding(crate::specs::Texts::of_map))]
 fn of_map(h: Head, depth: u64) -> bool
     ensures { result ≡ of_map depth h }
 {
-    let d = h.depth;
-    if d <= depth {
-        return false;
+    match h.depth.checked_sub(depth) {
+        None | Some(0) => false,
+        Some(1) => h.side == Side::Map,
+        Some(_) => true,
     }
-    if d - depth != 1 {
-        return true;
-    }
-    h.side == MAP
 }
 
 // The length of a key: one that is too long counts as the empty key.
@@ -34,69 +32,94 @@ fn short_of(len: u64) -> u64
 }
 
 // What is read of a row with this head: its key, or nothing.
-
-fn key_size(h: Head, keys: &[u64], row: usize, depth: u64) -> usize
+fn key_of(h: Head, keys: &[u64], depth: u64, row: usize) -> Option<Row<Hex<2>>>
     requires { row < heads_room }
-    ensures { Sized (key_of h keys.now depth row) 33 result }
+    ensures text { ⟦<Option<Row<Hex<2>>> as Text>⟧.text result ≡ key_of h keys.now depth row }
+    ensures valid { ⟦<Option<Row<Hex<2>>> as Text>⟧.Valid result }
+    ensures most { ⟦<Option<Row<Hex<2>>> as Text>⟧.most result ≤ 33 }
 {
-    if !is_listed(h, depth, MAP) {
-        return 0;
+    if !is_listed(h, depth, Side::Map) {
+        return None;
     }
     let k = key_at(keys, row);
-    key_row_size(k.hi, k.lo, short_of(k.len))
-}
-
-fn put_key(buf: &mut [u8], h: Head, keys: &[u64], row: usize, depth: u64) -> usize
-    requires { (row < heads_room) × (length (key_of h keys.now depth row) ≤ length buf.old) }
-    ensures { Wrote (key_of h keys.now depth row) buf.old buf.new result }
-{
-    if !is_listed(h, depth, MAP) {
-        return 0;
-    }
-    let k = key_at(keys, row);
-    put_key_row(buf, k.hi, k.lo, short_of(k.len))
+    Some(key_row(Key {
+        len: short_of(k.len),
+        ..k
+    }))
 }
 
 // How many rows the map has, from one on, and how many bytes their keys take.
-pub fn extent(heads: &[u64], keys: &[u64], rows: usize, from: usize, depth: u64) -> Extent
+pub fn extent(t: &Tables, rows: usize, from: usize, depth: u64) -> Extent
     requires { (from ≤ rows) × (rows ≤ heads_room) }
-    ensures { Extends heads.now keys.now rows from depth result }
+    ensures { Extends t.now.heads t.now.keys rows from depth result }
 {
-    let mut n: usize = 0;
     let mut size: usize = 0;
-    let mut left = rows - from;
-    while 0 < left {
-        let h = head_at(heads, from + n);
+    for i in from..rows {
+        let h = head_at(&t.heads, i);
         if !of_map(h, depth) {
-            return Extent { rows: n, size };
+            return Extent {
+                rows: i - from,
+                size,
+            };
         }
-        size += key_size(h, keys, from + n, depth);
-        n += 1;
-        left -= 1;
+        size += key_of(h, &t.keys, depth, i).size();
     }
-    Extent { rows: n, size }
+    Extent {
+        rows: rows - from,
+        size,
+    }
 }
 
-// Writes the keys of n rows, from one on.
-pub fn put_keys(
-    buf: &mut [u8],
-    heads: &[u64],
-    keys: &[u64],
-    from: usize,
-    n: usize,
-    depth: u64,
-) -> usize
-    requires { (from + n ≤ heads_room) × (length (keys_from heads.now keys.now depth from n) ≤ length buf.old) }
-    ensures { Wrote (keys_from heads.now keys.now depth from n) buf.old buf.new result }
-{
-    let mut at: usize = 0;
-    let mut i = from;
-    let mut left = n;
-    while 0 < left {
-        let h = head_at(heads, i);
-        at += put_key(&mut buf[at..], h, keys, i, depth);
-        i += 1;
-        left -= 1;
+// Keys, of the rows from one on.
+#[derive(Clone, Copy)]
+pub struct Keys<'a> {
+    pub tables: &'a Tables,
+    pub depth: u64,
+    pub at: usize,
+}
+
+impl<'a> Pieces for Keys<'a> {
+    type Piece = Option<Row<Hex<2>>>;
+
+    ghost text = { λ k. key_text k.tables.now.heads k.tables.now.keys k.depth k.at };
+
+    ghost next = { λ k. record { tables = k.tables; depth = k.depth; at = k.at + 1 } };
+
+    ghost each = { 33 };
+
+    ghost Has = { λ k n. k.at + n ≤ heads_room };
+
+    ghost Here = { λ k. k.at < heads_room };
+
+    fn piece(&self) -> Option<Row<Hex<2>>> {
+        key_of(
+            head_at(&self.tables.heads, self.at),
+            &self.tables.keys,
+            self.depth,
+            self.at,
+        )
     }
-    at
+
+    fn next(self) -> Keys<'a> {
+        Keys {
+            at: self.at + 1,
+            ..self
+        }
+    }
+
+    ghost onward = { λ p n h. (omega arith, omega arith) };
+}
+
+// The keys of n rows, from one on.
+pub fn keys_of<'a>(t: &'a Tables, depth: u64, from: usize, n: usize) -> Many<Keys<'a>>
+    requires { from + n ≤ heads_room }
+    ensures text { ⟦<Many<Keys<'a>> as Text>⟧.text result ≡ keys_from t.now.heads t.now.keys depth from n }
+    ensures valid { ⟦<Many<Keys<'a>> as Text>⟧.Valid result }
+{
+    let first = Keys {
+        tables: t,
+        depth,
+        at: from,
+    };
+    Many { first, count: n }
 }

@@ -1,68 +1,70 @@
-// The values of a place, as the table holds them: n of them, from one on, each behind the same lead. In a read they have none, in a sheet
-// `value=`.
-ghost use Rattle.std.specs.Prelude.{◌≡◌, ◌+◌, ◌*◌, ◌≤◌, ◌<◌, length};
-ghost use Rattle.decimal.specs.Powers.{powers_of_ten};
-ghost use Rattle.decimal.specs.Take.{Wrote};
-ghost use Rattle.writers.specs.Sized.{Sized};
+// The values of a place, as the table holds them, each behind the same lead. In a read there is none, in a sheet `value=`.
+ghost use Rattle.std.specs.Prelude.{ℕ, suc, List, ◌≡◌, ◌+◌, ◌*◌, ◌≤◌, ◌<◌, length};
+ghost use Rattle.std.proofs.Common.{arith};
 ghost use Rattle.listings.specs.Texts.{value_text, values_from};
 
-use lines::{then_value_row, value_row_size};
+use lines::{ValueRow, value_row};
 use tables::value_at;
-use writers::put_text;
+use writers::{Many, Pieces, Plain, Text};
 
-fn value_size(values: &[u64], i: usize, lead: &[u8], powers: &[u64; 20]) -> usize
-    requires { (powers.now ≡ powers_of_ten) × (i < 1048576) × (length lead.now ≤ 6) }
-    ensures { Sized (value_text lead.now values.now i) 114 result }
-{
-    let v = value_at(values, i);
-    let words = v.words;
-    lead.len() + value_row_size(v.id, v.kind, words, powers)
+// Values, from one on.
+#[derive(Clone, Copy)]
+pub struct Values<'a, const N: usize> {
+    pub lead: [u8; N],
+    pub values: &'a [u64],
+    pub at: usize,
 }
 
-fn put_value(buf: &mut [u8], values: &[u64], i: usize, lead: &[u8], powers: &[u64; 20]) -> usize
-    requires { (powers.now ≡ powers_of_ten) × (i < 1048576) × (length (value_text lead.now values.now i) ≤ length buf.old) }
-    ensures { Wrote (value_text lead.now values.now i) buf.old buf.new result }
-{
-    let v = value_at(values, i);
-    let words = v.words;
-    let a = put_text(buf, lead);
-    then_value_row(buf, a, v.id, v.kind, words, powers)
-}
+impl<'a, const N: usize> Pieces for Values<'a, N> {
+    type Piece = ([u8; N], ValueRow);
 
-pub fn values_size(values: &[u64], from: usize, n: usize, lead: &[u8], powers: &[u64; 20]) -> usize
-    requires { (powers.now ≡ powers_of_ten) × (from + n < 1048576) × (length lead.now ≤ 6) }
-    ensures { Sized (values_from lead.now values.now from n) (114 * n) result }
-{
-    let mut sum: usize = 0;
-    let mut i = from;
-    let mut left = n;
-    while 0 < left {
-        sum += value_size(values, i, lead, powers);
-        i += 1;
-        left -= 1;
+    ghost text = { λ v. value_text v.lead v.values.now v.at };
+
+    ghost next = { λ v. record { lead = v.lead; values = v.values; at = v.at + 1 } };
+
+    ghost each = { N + 108 };
+
+    ghost Has = { λ v n. v.at + n < 1048576 };
+
+    ghost Here = { λ v. v.at < 1048575 };
+
+    fn piece(&self) -> ([u8; N], ValueRow) {
+        let v = value_at(self.values, self.at);
+        let words = v.words;
+        let plain = Plain {
+            kind: v.kind,
+            words,
+        };
+        let lead = self.lead;
+        (lead, value_row(v.id, plain))
     }
-    sum
+
+    fn next(self) -> Values<'a, N> {
+        Values {
+            at: self.at + 1,
+            ..self
+        }
+    }
+
+    ghost onward = { λ p n h. (omega arith, omega arith) };
 }
 
-pub fn put_values(
-    buf: &mut [u8],
-    values: &[u64],
+// n values, from one on.
+pub fn values_of<'a, const N: usize>(
+    lead: [u8; N],
+    values: &'a [u64],
     from: usize,
     n: usize,
-    lead: &[u8],
-    powers: &[u64; 20],
-) -> usize
-    requires { (powers.now ≡ powers_of_ten) × (from + n < 1048576)
-        × (length (values_from lead.now values.now from n) ≤ length buf.old) }
-    ensures { Wrote (values_from lead.now values.now from n) buf.old buf.new result }
+) -> Many<Values<'a, N>>
+    requires { from + n < 1048576 }
+    ensures text { ⟦<Many<Values<'a, N>> as Text>⟧.text result ≡ values_from lead.entry values.now from n }
+    ensures valid { ⟦<Many<Values<'a, N>> as Text>⟧.Valid result }
+    ensures most { ⟦<Many<Values<'a, N>> as Text>⟧.most result ≡ (N + 108) * n }
 {
-    let mut at: usize = 0;
-    let mut i = from;
-    let mut left = n;
-    while 0 < left {
-        at += put_value(&mut buf[at..], values, i, lead, powers);
-        i += 1;
-        left -= 1;
-    }
-    at
+    let first = Values {
+        lead,
+        values,
+        at: from,
+    };
+    Many { first, count: n }
 }

@@ -10,7 +10,7 @@ use Rattle.meaning.specs.Message.{message}
 use Rattle.meaning.specs.Receive.{Terminal, new_terminal}
 use Rattle.meaning.specs.Sheet.{sheet}
 use Rattle.meaning.specs.Promises.{Receives}
-use Rattle.meaning.specs.declared.Receipt.{Receipt}
+use Rattle.meaning.specs.Answers.{Receipt}
 
 pub record Example : Type 0 where
   pub messages : List (List ℕ)

@@ -1,13 +1,12 @@
 -- Document 01, the table of "What is answered", row by row: the number of each case of an answer, and what comes with it. An edit of any
 -- line of specs/Answers is refused here.
 -- Assumes nothing.
-use Rattle.std.specs.Prelude.{ℕ, ◌≡◌, refl, List, [], ◌∷◌, map, true, false}
+use Rattle.std.specs.Prelude.{ℕ, ◌≡◌, refl, List, [], ◌∷◌, map, true, false, Ok, Err}
 use Rattle.meaning.specs.Answers.{Answer, receipt_answer, edited_answer, saved_answer, loaded_answer, reading_answer, refuses}
-use Rattle.meaning.specs.declared.Receipt.TheVariants as R
-use Rattle.meaning.specs.declared.Edited.TheVariants as E
-use Rattle.meaning.specs.declared.Saved.TheVariants as S
-use Rattle.meaning.specs.declared.Loaded.TheVariants as L
-use Rattle.meaning.specs.declared.Reading.TheVariants as G
+use Rattle.meaning.specs.declared.Received.TheVariants as D
+use Rattle.meaning.specs.declared.ReceiveError.TheVariants as R
+use Rattle.meaning.specs.declared.EditError.TheVariants as E
+use Rattle.meaning.specs.declared.ReadError.TheVariants as G
 
 -- the number; how many were applied and dropped; the bytes written; the line; the bytes needed
 abbrev given : ℕ → ℕ → ℕ → ℕ → ℕ → ℕ → Answer
@@ -29,46 +28,46 @@ is a b = record { case = a; says = b }
 abbrev pub table : ℕ → ℕ → ℕ → ℕ → ℕ → List Case
 table a d w l b =
     -- 0: applied, saved, loaded or read
-    is (receipt_answer (R.Applied a d)) (given 0 a d 0 0 0) ∷
-    is (edited_answer (E.Applied a d w)) (given 0 a d w 0 0) ∷
-    is (saved_answer (S.Written w)) (given 0 0 0 w 0 0) ∷
-    is (loaded_answer L.Taken) (given 0 0 0 0 0 0) ∷
-    is (reading_answer (G.Written w)) (given 0 0 0 w 0 0) ∷
+    is (receipt_answer (Ok (D.Applied a d))) (given 0 a d 0 0 0) ∷
+    is (edited_answer (Ok (record { applied = a; dropped = d; written = w }))) (given 0 a d w 0 0) ∷
+    is (saved_answer (Ok w)) (given 0 0 0 w 0 0) ∷
+    is (loaded_answer (Ok tt)) (given 0 0 0 0 0 0) ∷
+    is (reading_answer (Ok w)) (given 0 0 0 w 0 0) ∷
     -- 1: message, edit or way not in the layout, or the device's number not 1 to 8
-    is (receipt_answer R.Layout) (bare 1) ∷
-    is (edited_answer E.Layout) (bare 1) ∷
-    is (reading_answer G.Layout) (bare 1) ∷
+    is (receipt_answer (Err R.Layout)) (bare 1) ∷
+    is (edited_answer (Err E.Layout)) (bare 1) ∷
+    is (reading_answer (Err G.Layout)) (bare 1) ∷
     -- 2: counter not above every deps entry
-    is (receipt_answer R.Counter) (bare 2) ∷
+    is (receipt_answer (Err R.Counter)) (bare 2) ∷
     -- 3: counter not above seen entry r
-    is (receipt_answer R.Repeat) (bare 3) ∷
+    is (receipt_answer (Err R.Repeat)) (bare 3) ∷
     -- 4: own deps entry below seen entry r
-    is (receipt_answer R.OwnDeps) (bare 4) ∷
+    is (receipt_answer (Err R.OwnDeps)) (bare 4) ∷
     -- 5: not ready: now waiting
-    is (receipt_answer R.Waiting) (bare 5) ∷
+    is (receipt_answer (Ok D.Waiting)) (bare 5) ∷
     -- 6: not ready, and the same id waits already
-    is (receipt_answer R.WaitsAlready) (bare 6) ∷
+    is (receipt_answer (Err R.WaitsAlready)) (bare 6) ∷
     -- 7: not ready, 64 wait
-    is (receipt_answer R.WaitingFull) (bare 7) ∷
+    is (receipt_answer (Err R.WaitingFull)) (bare 7) ∷
     -- 8: an element id in the way isn't covered by deps, or isn't an element of that list
-    is (receipt_answer R.NoElement) (bare 8) ∷
-    is (edited_answer E.NoElement) (bare 8) ∷
+    is (receipt_answer (Err R.NoElement)) (bare 8) ∷
+    is (edited_answer (Err E.NoElement)) (bare 8) ∷
     -- 9: insert after an element whose id is not smaller
-    is (receipt_answer R.NotSmaller) (bare 9) ∷
-    is (edited_answer E.NotSmaller) (bare 9) ∷
+    is (receipt_answer (Err R.NotSmaller)) (bare 9) ∷
+    is (edited_answer (Err E.NotSmaller)) (bare 9) ∷
     -- 10: over 256 places, 1,024 marks or 256 values
-    is (receipt_answer R.NoRoom) (bare 10) ∷
-    is (edited_answer E.NoRoom) (bare 10) ∷
+    is (receipt_answer (Err R.NoRoom)) (bare 10) ∷
+    is (edited_answer (Err E.NoRoom)) (bare 10) ∷
     -- 11: local edit, a seen entry is 4294967295
-    is (edited_answer E.LastCounter) (bare 11) ∷
+    is (edited_answer (Err E.LastCounter)) (bare 11) ∷
     -- 12: sheet breaks a rule: number of the first line that breaks one
-    is (loaded_answer (L.BadLine l)) (given 12 0 0 0 l 0) ∷
+    is (loaded_answer (Err (record { line = l }))) (given 12 0 0 0 l 0) ∷
     -- 13: caller's buffer too short: bytes needed
-    is (edited_answer (E.ShortBuffer b)) (given 13 0 0 0 0 b) ∷
-    is (saved_answer (S.ShortBuffer b)) (given 13 0 0 0 0 b) ∷
-    is (reading_answer (G.ShortBuffer b)) (given 13 0 0 0 0 b) ∷
+    is (edited_answer (Err (E.ShortBuffer b))) (given 13 0 0 0 0 b) ∷
+    is (saved_answer (Err (record { needed = b }))) (given 13 0 0 0 0 b) ∷
+    is (reading_answer (Err (G.ShortBuffer b))) (given 13 0 0 0 0 b) ∷
     -- 14: read: way unknown, place without marks, or no such index
-    is (reading_answer G.NotThere) (bare 14) ∷
+    is (reading_answer (Err G.NotThere)) (bare 14) ∷
     []
 
 pub numbers : (a d w l b : ℕ) → map (λ c. c.case) (table a d w l b) ≡ map (λ c. c.says) (table a d w l b)

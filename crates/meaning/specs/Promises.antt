@@ -16,11 +16,11 @@ use Rattle.meaning.specs.Read.{Finding, keys, values, nth_element, ReadOutcome, 
 use Rattle.meaning.specs.Stream.{messages}
 use Rattle.meaning.specs.Answers.{Answer, done, only, bad_line}
 use Rattle.meaning.specs.Answers.{receipt_answer, edited_answer, saved_answer, loaded_answer, reading_answer}
-use Rattle.meaning.specs.declared.Receipt.{Receipt}
-use Rattle.meaning.specs.declared.Edited.{Edited}
-use Rattle.meaning.specs.declared.Saved.{Saved}
-use Rattle.meaning.specs.declared.Loaded.{Loaded}
-use Rattle.meaning.specs.declared.Reading.{Reading}
+use Rattle.meaning.specs.Answers.{Receipt}
+use Rattle.meaning.specs.Answers.{Edited}
+use Rattle.meaning.specs.Answers.{Saved}
+use Rattle.meaning.specs.Answers.{Loaded}
+use Rattle.meaning.specs.Answers.{Reading}
 
 -- What bytes say in a layout: they are the text of a valid thing, or of none.
 pub data Says {A : Type 0} (Valid : A → Type 0) (text : A → List ℕ) (bytes : List ℕ) : Type 0 where

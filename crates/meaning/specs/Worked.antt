@@ -13,9 +13,9 @@ use Rattle.meaning.specs.Receive.{Terminal, new_terminal}
 use Rattle.meaning.specs.Sheet.{sheet}
 use Rattle.meaning.specs.Promises.{Edits, Saves, ReadsKeys, ReadsValues, ReadsElement}
 use Rattle.meaning.specs.Examples.{Answered, sheet1, m1, m2, m3, m4, m5, a1, a2, m}
-use Rattle.meaning.specs.declared.Edited.{Edited}
-use Rattle.meaning.specs.declared.Saved.{Saved}
-use Rattle.meaning.specs.declared.Reading.{Reading}
+use Rattle.meaning.specs.Answers.{Edited}
+use Rattle.meaning.specs.Answers.{Saved}
+use Rattle.meaning.specs.Answers.{Reading}
 
 -- what is asked of a terminal: a device edits by these lines; the document is saved; keys, values or the n-th element of a way
 pub data Call : Type 0 where

@@ -32,7 +32,7 @@ use Rattle.meaning.specs.Checked.{ok_id, ok_key, ok_plain, ok_assigned, ok_prev,
 use Rattle.meaning.specs.Checked.{valid_id, valid_key, valid_edit}
 use Rattle.meaning.specs.Twelve.{play, played, op, i, m, m1, m2, m3, m4, m5, a1, a2}
 use Rattle.meaning.specs.Worked.{Call, edits, saves, reads_keys, reads_values, reads_element, Start, received, given, Worked, table}
-use Rattle.meaning.specs.declared.Reading.{Reading}
+use Rattle.meaning.specs.Answers.{Reading}
 use Rattle.meaning.specs.Worked.{many, points, full, last, hidden, Begins, Meets, Holds, Claim}
 
 -- Whether a way of a read is valid.

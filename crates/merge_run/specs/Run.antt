@@ -3,6 +3,9 @@
 -- input, no contract can say (docs/DECISIONS.md, 59): a run is 'some reads', and the proof of `read_on` names the answers.
 -- Assumes nothing: these are definitions.
 use Rattle.std.specs.Prelude.{ℕ, zero, suc, ◌≡◌, Bool, true, false, List, [], ◌∷◌, ◌++◌, map, eqb, ℤ, pos, negsuc, length}
+use Rattle.std.specs.Prelude.{Option, Some, None, Result, Ok, Err}
+use Rattle.std.specs.IoError.{raw_os_error}
+use Rattle.std.specs.declared.io.Error.{Error}
 use Rattle.stream.specs.Pieces.{joined}
 
 -- what a read tells: reading goes on; the input has ended; reading has failed
@@ -16,31 +19,34 @@ abbrev pub interruption : ℤ → Bool
 interruption (pos k) = eqb k 4
 interruption (negsuc k) = false
 
--- A negative answer is a failure, or a read that was interrupted.
+abbrev pub interrupts : Option ℤ → Bool
+interrupts (Some errno) = interruption errno
+interrupts None = false
+
+-- An error is a failure, or tells that the read was interrupted.
 abbrev pub stopped : Bool → Told
 stopped true = onward
 stopped false = failure
 
--- what a read tells by its answer, and by the error number behind it
-abbrev pub told : ℤ → ℤ → Told
-told (pos zero) errno = end
-told (pos (suc k)) errno = onward
-told (negsuc k) errno = stopped (interruption errno)
+-- what a read tells by its answer: a number of bytes, or an error
+abbrev pub told : Result ℕ Error → Told
+told (Ok zero) = end
+told (Ok (suc k)) = onward
+told (Err e) = stopped (interrupts (raw_os_error e))
 
 -- how many bytes a read has brought that answered this
-abbrev pub brought : ℤ → ℕ
-brought (pos k) = k
-brought (negsuc k) = 0
+abbrev pub brought : Result ℕ Error → ℕ
+brought (Ok n) = n
+brought (Err e) = 0
 
--- A read: its answer, the error number behind it, and the bytes that it brought, as many as it answered.
+-- A read: its answer, and the bytes that it brought, as many as it answered.
 pub record Read : Type 0 where
-  pub got : ℤ
-  pub errno : ℤ
+  pub got : Result ℕ Error
   pub chunk : List ℕ
   pub long : length chunk ≡ brought got
 
 abbrev pub tells : Read → Told
-tells r = told r.got r.errno
+tells r = told r.got
 
 abbrev pub chunks : List Read → List (List ℕ)
 chunks reads = map (λ r. r.chunk) reads

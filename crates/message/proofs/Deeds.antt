@@ -2,8 +2,7 @@
 -- Assumes nothing.
 use Prim.Native.Nat.{ℕ}
 use native.Mathlib.Omega.{arith}
-use mathlib.Core.Path.{◌≡◌, refl, sym, ap, ◌∙◌, subst}
-use mathlib.Core.Bool.{Bool, true, false}
+use mathlib.Core.Path.{◌≡◌, refl, sym, ap, ◌∙◌}
 use mathlib.Core.List.{List, [], ◌∷◌, ◌++◌}
 use lib.ListN.{get_or, drop}
 use Rattle.meaning.specs.Ascii.{ascii, byte}
@@ -12,14 +11,12 @@ use Rattle.meaning.specs.Ways.{Assigned, plain, empty_map, empty_list}
 use Rattle.meaning.specs.Text.{assigned_text}
 use Rattle.decimal.specs.Take.{Took, Never, fixed, then}
 use Rattle.decimal.proofs.Layouts.{stands, Kind, this, other, Case, case_took}
-use Rattle.decimal.proofs.Layouts.{case_none, Alike, no_first, no_second, both, none_alike, took_alike}
-use Rattle.readers.specs.Words.{pack, words_of, value_words}
-use Rattle.readers.specs.Reads.{assigned, MoreAssigned, either}
-use Rattle.readers.specs.Given.{given_of, GivenTook, ReadsAssigned}
+use Rattle.decimal.proofs.Layouts.{case_none, Alike, no_second, none_alike}
+use Rattle.readers.specs.Reads.{assigned, MoreAssigned}
+use Rattle.readers.specs.Given.{given_of, GivenTook}
 use Rattle.readers.specs.declared.Given.{Given}
-use Rattle.readers.specs.declared.GivenRead.{GivenRead}
 use Rattle.message.specs.Steps.{Action, assigns, inserts, deletes, action_text, ValidAction, actions}
-use Rattle.message.specs.Reads.{until, value_lines, ReadsValueLine, action_deed, action_words, ReadsDeed}
+use Rattle.message.specs.Reads.{value_lines, action_deed, DeedTook}
 use Rattle.message.specs.declared.Deed.{Deed}
 use Rattle.message.specs.declared.Deed.TheVariants as D
 
@@ -47,35 +44,11 @@ a_line = record {
 }
 
 module _ (s : List ℕ) (a : ℕ) where
-  pub no_value : (r : GivenRead) → r.ok ≡ false → ReadsAssigned s a r → ReadsValueLine s a r
-  no_value r e k =
-      subst (λ b. either b (GivenTook value_lines (λ v. v) s a r) (Never value_lines s a)) (sym e)
-      (none_alike value_lines (then assigned (fixed (ascii "\n"))) a_line s a
-      (no_first assigned (fixed (ascii "\n")) (λ v y t o m. feed v t) s a
-      (subst (λ b. either b (GivenTook assigned (λ v. v) s a r) (Never assigned s a)) e k)))
-
-  module _ (r : GivenRead) (e : r.ok ≡ true) (k : ReadsAssigned s a r) where
-    value : GivenTook assigned (λ v. v) s a r
-    value = subst (λ b. either b (GivenTook assigned (λ v. v) s a r) (Never assigned s a)) e k
-
-    pub no_feed : Never (fixed (ascii "\n")) s r.next → (n : ℕ) (w : GivenRead) → w ≡ until r false n → ReadsValueLine s a w
-    no_feed h n w q =
-        subst (ReadsValueLine s a) (sym q)
-        (none_alike value_lines (then assigned (fixed (ascii "\n"))) a_line s a
-        (no_second assigned (fixed (ascii "\n")) (λ v y t o m. feed v t) s a value.value r.next value.took h))
-
-    pub a_value_line : (n : ℕ) → Took (fixed (ascii "\n")) s r.next tt n → (w : GivenRead) → w ≡ until r true n → ReadsValueLine s a w
-    unfolding a_line
-    a_value_line n j w q =
-        subst (ReadsValueLine s a) (sym q)
-        (record {
-          value = value.value;
-          took =
-              took_alike value_lines (then assigned (fixed (ascii "\n"))) a_line s a (value.value, tt) n
-              (both assigned (fixed (ascii "\n")) (λ v y t o m. feed v t) s a value.value r.next value.took tt n j);
-          given = value.given;
-          words = value.words;
-        })
+  module _ (g : Given) (n : ℕ) (k : GivenTook assigned (λ v. v) s a g n) where
+    pub no_feed : Never (fixed (ascii "\n")) s n → Never value_lines s a
+    no_feed h =
+        none_alike value_lines (then assigned (fixed (ascii "\n"))) a_line s a
+        (no_second assigned (fixed (ascii "\n")) (λ v y t o m. feed v t) s a k.value n k.took h)
 
 -- Which of the three it is, is said by the fourth byte.
 
@@ -118,43 +91,38 @@ a_deletion = record { make = λ u. deletes; text = λ u. refl; valid = λ u o. t
     kind (inserts v) = other (λ t u e. omega (arith, ap fourth e))
     kind deletes = this tt refl (λ o. tt) (λ t m. tt)
 
--- a deed with a value, whose line was read
-valued : (p : List ℕ) (c : Case p value_lines actions) (deed : Given → Deed) → ((v : Assigned) → action_deed (c.make v) ≡ deed (given_of v))
-    → ((v : Assigned) → action_words (c.make v) ≡ value_words v) → (s : List ℕ) (a n : ℕ) → Took (fixed p) s a tt n → (r : GivenRead)
-    → ReadsValueLine s n r → ReadsDeed s a (record { ok = r.ok; deed = deed r.given; words = r.words; next = r.next })
-valued p c deed same word s a n h r = go r.ok
-  where
-    go : (b : Bool) → either b (GivenTook value_lines (λ v. v) s n r) (Never value_lines s n)
-        → ReadsDeed s a (record { ok = b; deed = deed r.given; words = r.words; next = r.next })
-    go true k =
-        record {
-          action = c.make k.value;
-          took = case_took p value_lines actions c s a n h k.value r.next k.took;
-          deed = ap deed k.given ∙ sym (same k.value);
-          words = k.words ∙ sym (word k.value);
-        }
-    go false k = case_none p value_lines actions c s a n h k
-
 module _ (s : List ℕ) (a n : ℕ) where
-  pub an_assign : Took (fixed assign_text) s a tt n → (r : GivenRead) → ReadsValueLine s n r
-      → ReadsDeed s a (record { ok = r.ok; deed = D.Assign r.given; words = r.words; next = r.next })
-  unfolding an_assignment action_deed action_words
-  an_assign = valued assign_text an_assignment D.Assign (λ v. refl) (λ v. refl) s a n
+  -- a deed with a value, whose line was read
+  valued : (p : List ℕ) (c : Case p value_lines actions) (deed : Given → Deed) → ((v : Assigned) → action_deed (c.make v) ≡ deed (given_of v))
+      → Took (fixed p) s a tt n → (g : Given) (m : ℕ) → GivenTook value_lines (λ v. v) s n g m → DeedTook s a (deed g) m
+  valued p c deed same h g m k =
+      record {
+        action = c.make k.value;
+        took = case_took p value_lines actions c s a n h k.value m k.took;
+        deed = ap deed k.given ∙ sym (same k.value);
+      }
 
-  pub an_insert : Took (fixed insert_text) s a tt n → (r : GivenRead) → ReadsValueLine s n r
-      → ReadsDeed s a (record { ok = r.ok; deed = D.Insert r.given; words = r.words; next = r.next })
-  unfolding an_insertion action_deed action_words
-  an_insert = valued insert_text an_insertion D.Insert (λ v. refl) (λ v. refl) s a n
+  pub an_assign : Took (fixed assign_text) s a tt n → (g : Given) (m : ℕ) → GivenTook value_lines (λ v. v) s n g m → DeedTook s a (D.Assign g) m
+  unfolding an_assignment action_deed
+  an_assign = valued assign_text an_assignment D.Assign (λ v. refl)
 
-  pub a_delete : Took (fixed delete_text) s a tt n → ReadsDeed s a
-      (record { ok = true; deed = D.Delete; words = 0 ∷ 0 ∷ 0 ∷ 0 ∷ []; next = n })
-  unfolding a_deletion action_deed action_words words_of pack
+  pub an_insert : Took (fixed insert_text) s a tt n → (g : Given) (m : ℕ) → GivenTook value_lines (λ v. v) s n g m → DeedTook s a (D.Insert g) m
+  unfolding an_insertion action_deed
+  an_insert = valued insert_text an_insertion D.Insert (λ v. refl)
+
+  pub no_assign : Took (fixed assign_text) s a tt n → Never value_lines s n → Never actions s a
+  no_assign h k = case_none assign_text value_lines actions an_assignment s a n h k
+
+  pub no_insert : Took (fixed insert_text) s a tt n → Never value_lines s n → Never actions s a
+  no_insert h k = case_none insert_text value_lines actions an_insertion s a n h k
+
+  pub a_delete : Took (fixed delete_text) s a tt n → DeedTook s a D.Delete n
+  unfolding a_deletion action_deed
   a_delete h =
       record {
         action = deletes;
         took = case_took delete_text (fixed []) actions a_deletion s a n h tt n (stands [] s n n refl (λ i. i));
         deed = refl;
-        words = refl;
       }
 
 pub no_deed : (s : List ℕ) (a : ℕ) → Never (fixed assign_text) s a → Never (fixed insert_text) s a → Never (fixed delete_text) s a
@@ -166,3 +134,6 @@ no_deed s a x y z = record { not = none }
     none (assigns v) t o m e = x.not tt ((assigned_text v ++ ascii "\n") ++ t) tt tt e
     none (inserts v) t o m e = y.not tt ((assigned_text v ++ ascii "\n") ++ t) tt tt e
     none deletes t o m e = z.not tt t tt tt e
+
+-- a deletion, and no deed
+pub ruleset other_deeds = (a_delete, no_assign, no_insert, no_deed)

@@ -7,6 +7,7 @@ use mathlib.Core.Bool.{true, false, not}
 use mathlib.Core.List.{List, [], ◌∷◌, ◌++◌, append_assoc, append-nil}
 use lib.Dec.{eqb}
 use lib.ListN.{length, drop, length-drop, drop_of_length-le}
+use Rattle.std.proofs.Common.{Some, None}
 use borrow.Author.Tests.{not-true, not-false, eqb-true, eqb-false, leb-true, leb-false}
 use Rattle.meaning.specs.Ascii.{ascii, byte}
 use Rattle.meaning.specs.Ways.{Prev, head, after, Way, assign, delete, insert, into_map, into_list, steps}
@@ -17,16 +18,14 @@ use Rattle.meaning.specs.Promises.{says, says_nothing, Lines, lines_of}
 use Rattle.decimal.specs.Take.{Layout, Took, Never, fixed, then}
 use Rattle.decimal.proofs.Layouts.{no_first, no_second, both}
 use Rattle.readers.specs.Words.{key_words}
-use Rattle.readers.specs.Reads.{either}
-use Rattle.message.specs.Means.{element_words, prev_words, way_words, deed_of, deed_words, pad}
+use Rattle.message.specs.Means.{element_words, prev_words, way_words, deed_of, pad}
 use Rattle.message.specs.Steps.{Step, key, element, caret, step_text, all_text, step_words, all_words, Open, Good, InList}
 use Rattle.message.specs.Steps.{Action, assigns, inserts, deletes, action_text, ValidAction, actions}
 use Rattle.message.specs.Reads.{Tail, at_key, at_element, at_caret, ways, WayTook}
-use Rattle.message.specs.Reads.{ReadsWay, action_deed, action_words, DeedTook, ReadsDeed, suits}
-use Rattle.message.specs.Promises.{no_edit, ValidLines, ReadsEdit}
-use Rattle.message.specs.declared.WayRead.{WayRead}
-use Rattle.message.specs.declared.DeedRead.{DeedRead}
-use Rattle.message.specs.declared.EditRead.{EditRead}
+use Rattle.message.specs.Reads.{action_deed, DeedTook, suits}
+use Rattle.message.specs.Promises.{ValidLines, ReadsEdit}
+use Rattle.message.specs.declared.ways.WayRead.{WayRead}
+use Rattle.message.specs.declared.Deed.{Deed}
 
 -- Taken apart.
 
@@ -89,14 +88,6 @@ action_deed_lem delete = refl
 action_deed_lem (insert p a) = refl
 action_deed_lem (into_map k w) = action_deed_lem w
 action_deed_lem (into_list e w) = action_deed_lem w
-
-action_words_lem : (w : Way) → deed_words w ≡ action_words (action_of w)
-unfolding deed_words action_of action_words
-action_words_lem (assign a) = refl
-action_words_lem delete = refl
-action_words_lem (insert p a) = refl
-action_words_lem (into_map k w) = action_words_lem w
-action_words_lem (into_list e w) = action_words_lem w
 
 steps_good : (w : Way) → ValidWay w → Good (steps_of w)
 unfolding steps_of prev_step
@@ -260,8 +251,8 @@ whole s a l e = e ∙ (apart_text l.top l.way ∙ sym (append-nil (parts.text (a
 nothing : (s : List ℕ) (a : ℕ) → Never parts s a → Unsaid (drop a s)
 nothing s a h l v e = h.not (apart l.top l.way) [] (apart_valid l.top l.way v) tt (whole s a l e)
 
-pub refused : (bytes : List ℕ) (r : EditRead) → r ≡ no_edit → Unsaid bytes → ReadsEdit bytes r
-refused bytes r e n = record { says = says_nothing n; answers = e }
+pub refused : (bytes : List ℕ) → Unsaid bytes → ReadsEdit bytes None
+refused bytes n = record { says = says_nothing n; answers = tt }
 
 module _ (s : List ℕ) (a : ℕ) where
   pub no_at : Never (fixed (ascii "at=")) s a → Unsaid (drop a s)
@@ -271,62 +262,50 @@ module _ (s : List ℕ) (a : ℕ) where
     behind-at : Never middle s n → Unsaid (drop a s)
     behind-at h = nothing s a (no_second (fixed (ascii "at=")) middle (λ x y t v m. tt) s a tt n at h)
 
-    pub no_way_lem : (r : WayRead) → r.ok ≡ false → ReadsWay s n r → Unsaid (drop a s)
-    no_way_lem r e k = behind-at (no_first ways ends (λ x y t v m. refl) s n (subst (λ b. either b (WayTook s n r) (Never ways s n)) e k))
+    pub no_way : Never ways s n → Unsaid (drop a s)
+    no_way h = behind-at (no_first ways ends (λ x y t v m. refl) s n h)
 
-    module _ (r : WayRead) (ok : r.ok ≡ true) (k : ReadsWay s n r) where
-      way : WayTook s n r
-      way = subst (λ b. either b (WayTook s n r) (Never ways s n)) ok k
-
+    module _ (r : WayRead) (way : WayTook s n r) where
       behind_way : Never ends s r.next → Unsaid (drop a s)
       behind_way h = behind-at (no_second ways ends (λ x y t v m. refl) s n (way.top, way.xs) r.next way.took h)
 
       pub no_feed : Never (fixed (ascii "\n")) s r.next → Unsaid (drop a s)
       no_feed h = behind_way (no_first (fixed (ascii "\n")) actions (λ x y t v m. tt) s r.next h)
 
-      module _ (o : ℕ) (feed : Took (fixed (ascii "\n")) s r.next tt o) (d : DeedRead) where
-        pub no_deed : d.ok ≡ false → ReadsDeed s o d → Unsaid (drop a s)
-        no_deed e j =
-            behind_way (no_second (fixed (ascii "\n")) actions (λ x y t v m. tt) s r.next tt o feed
-            (subst (λ b. either b (DeedTook s o d) (Never actions s o)) e j))
+      module _ (o : ℕ) (feed : Took (fixed (ascii "\n")) s r.next tt o) where
+        pub no_deed : Never actions s o → Unsaid (drop a s)
+        no_deed h = behind_way (no_second (fixed (ascii "\n")) actions (λ x y t v m. tt) s r.next tt o feed h)
 
-        module _ (done : d.ok ≡ true) (j : ReadsDeed s o d) where
-          deed : DeedTook s o d
-          deed = subst (λ b. either b (DeedTook s o d) (Never actions s o)) done j
-
-          all : Took parts s a (tt, ((way.top, way.xs), (tt, deed.action))) d.next
+        module _ (d : Deed) (next : ℕ) (deed : DeedTook s o d next) where
+          all : Took parts s a (tt, ((way.top, way.xs), (tt, deed.action))) next
           all =
-              both (fixed (ascii "at=")) middle (λ x y t v m. tt) s a tt n at ((way.top, way.xs), (tt, deed.action)) d.next
-              (both ways ends (λ x y t v m. refl) s n (way.top, way.xs) r.next way.took (tt, deed.action) d.next
-              (both (fixed (ascii "\n")) actions (λ x y t v m. tt) s r.next tt o feed deed.action d.next deed.took))
+              both (fixed (ascii "at=")) middle (λ x y t v m. tt) s a tt n at ((way.top, way.xs), (tt, deed.action)) next
+              (both ways ends (λ x y t v m. refl) s n (way.top, way.xs) r.next way.took (tt, deed.action) next
+              (both (fixed (ascii "\n")) actions (λ x y t v m. tt) s r.next tt o feed deed.action next deed.took))
 
           same : (l : Lines) → ValidLines l → drop a s ≡ lines_of l
-              → (apart l.top l.way ≡ (tt, ((way.top, way.xs), (tt, deed.action)))) × ([] ≡ drop d.next s)
+              → (apart l.top l.way ≡ (tt, ((way.top, way.xs), (tt, deed.action)))) × ([] ≡ drop next s)
           same l v e = all.only (apart l.top l.way) [] (apart_valid l.top l.way v) tt (whole s a l e)
 
-          pub bytes_behind : d.next < length s → Unsaid (drop a s)
-          bytes_behind h l v e = omega (arith, length-drop d.next s, ap length (same l v e).1)
+          pub bytes_behind : next < length s → Unsaid (drop a s)
+          bytes_behind h l v e = omega (arith, length-drop next s, ap length (same l v e).1)
 
-          pub unsuited : suits r.last d.deed ≡ false → Unsaid (drop a s)
+          pub unsuited : suits r.last d ≡ false → Unsaid (drop a s)
           unsuited h l v e =
               let q = (same l v e).0 in
               unfit r.last way.xs deed.action way.tail (ap (suits r.last) (sym deed.deed) ∙ h)
               (subst (λ (p : List Step × Action). Fits p.0 p.1) (λ i. ((q i).1.0.1, (q i).1.1.1)) (fits l.way v.rest))
 
-          pub an_edit : length s ≤ d.next → suits r.last d.deed ≡ true
-              → ReadsEdit (drop a s) (record { ok = true; way = r.way; deed = d.deed; words = d.words })
+          pub an_edit : length s ≤ next → suits r.last d ≡ true → ReadsEdit (drop a s) (Some (record { way = r.way; deed = d }))
           an_edit h e =
               record {
                 says = says (record { top = way.top; way = m.way }) valid text;
-                answers = (
-                  refl,
-                  record {
-                    keys = way.keys ∙ ap (λ t. pad 24 (key_words way.top ++ t)) (sym (steps_words m.way ∙ ap all_words m.steps));
-                    count = way.count ∙ ap suc (sym (ap length m.steps) ∙ steps_count m.way);
-                    deed = deed.deed ∙ sym (action_deed_lem m.way ∙ ap action_deed m.action);
-                    words = deed.words ∙ sym (action_words_lem m.way ∙ ap action_words m.action);
-                  },
-                );
+                answers =
+                    record {
+                      keys = way.keys ∙ ap (λ t. pad 24 (key_words way.top ++ t)) (sym (steps_words m.way ∙ ap all_words m.steps));
+                      count = way.count ∙ ap suc (sym (ap length m.steps) ∙ steps_count m.way);
+                      deed = deed.deed ∙ sym (action_deed_lem m.way ∙ ap action_deed m.action);
+                    };
               }
             where
               m : Made way.xs deed.action

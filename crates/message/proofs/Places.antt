@@ -3,10 +3,13 @@
 use Prim.Native.Nat.{ℕ, suc, ◌-◌, ◌≤◌, ◌<◌}
 use native.Mathlib.Omega.{arith}
 use mathlib.Core.Path.{◌≡◌, refl, sym, ap, ◌∙◌, subst}
-use mathlib.Core.Bool.{true, false}
+use mathlib.Core.Bool.{Bool, true, false, false≢true}
 use mathlib.Core.List.{List, [], ◌∷◌, ◌++◌, append-nil, append_cancel_right}
-use lib.ListN.{length, get_or, take, drop, length-drop, drop_of_length-le, length-append}
-use lib.Seq.{get_or_at, take-suc, take_all}
+use lib.Dec.{eqb}
+use lib.ListN.{length, take, drop, length-drop, drop_of_length-le, length-append, take-append-drop}
+use lib.Pointwise.{pointwise, bytes_decides}
+use lib.Seq.{drop_at}
+use Rattle.std.proofs.Common.{Option, Some, None}
 use Rattle.meaning.specs.Ascii.{ascii, byte}
 use Rattle.meaning.specs.Text.{hex, id_text}
 use Rattle.meaning.specs.Read.{Trail, here, by_key, by_element, trail_text, trail_steps, ValidTrail, PlaceWay, ValidPlaceWay, place_way_text}
@@ -14,13 +17,12 @@ use Rattle.meaning.specs.Read.{KeysWay, of_root, of_place, ValidKeysWay, keys_wa
 use Rattle.meaning.specs.Promises.{Says, says, says_nothing}
 use Rattle.decimal.specs.Take.{Never}
 use Rattle.readers.specs.Words.{key_words}
-use Rattle.readers.specs.Reads.{either}
 use Rattle.message.specs.Means.{element_words, trail_words, pad, MeansPlace}
 use Rattle.message.specs.Steps.{Step, key, element, caret, step_text, all_text, step_words, all_words, Open}
-use Rattle.message.specs.Reads.{Tail, at_key, at_element, at_caret, ways, WayTook, ReadsWay}
-use Rattle.message.specs.Promises.{no_place, Answers, ReadsPlaceWay, ReadsKeysWay, ReadsElementWay}
-use Rattle.message.specs.declared.WayRead.{WayRead}
-use Rattle.message.specs.declared.PlaceRead.{PlaceRead}
+use Rattle.message.specs.Reads.{Tail, at_key, at_element, at_caret, ways, WayTook}
+use Rattle.message.specs.Promises.{Answers, ReadsPlaceWay, ReadsKeysWay, ReadsElementWay}
+use Rattle.message.specs.declared.Way.{Way}
+use Rattle.message.specs.declared.ways.WayRead.{WayRead}
 use Rattle.message.proofs.Trails.{open_good}
 
 steps_of : Trail → List Step
@@ -91,137 +93,124 @@ apart_valid w v =
 abbrev Unsaid : List ℕ → Type 0
 Unsaid bytes = (w : PlaceWay) → ValidPlaceWay w → bytes ≡ place_way_text w → ⊥
 
-pub refused : (s : List ℕ) (r : PlaceRead) → r ≡ no_place → Unsaid s → ReadsPlaceWay s r
-refused s r e n = record { says = says_nothing n; answers = e }
+pub refused : (s : List ℕ) → Unsaid s → ReadsPlaceWay s None
+refused s n = record { says = says_nothing n; answers = tt }
 
-module _ (s : List ℕ) (r : WayRead) (k : ReadsWay s 0 r) where
-  pub no_way_lem : r.ok ≡ false → Unsaid s
-  no_way_lem e w v q =
-      (subst (λ b. either b (WayTook s 0 r) (Never ways s 0)) e k).not (apart w) [] (apart_valid w v) tt (whole s w q)
+pub no_way : (s : List ℕ) → Never ways s 0 → Unsaid s
+no_way s h w v q = h.not (apart w) [] (apart_valid w v) tt (whole s w q)
 
-  module _ (ok : r.ok ≡ true) where
-    way : WayTook s 0 r
-    way = subst (λ b. either b (WayTook s 0 r) (Never ways s 0)) ok k
+module _ (s : List ℕ) (r : WayRead) (way : WayTook s 0 r) where
+  same : (w : PlaceWay) → ValidPlaceWay w → s ≡ place_way_text w → (apart w ≡ (way.top, way.xs)) × ([] ≡ drop r.next s)
+  same w v q = way.took.only (apart w) [] (apart_valid w v) tt (whole s w q)
 
-    same : (w : PlaceWay) → ValidPlaceWay w → s ≡ place_way_text w → (apart w ≡ (way.top, way.xs)) × ([] ≡ drop r.next s)
-    same w v q = way.took.only (apart w) [] (apart_valid w v) tt (whole s w q)
+  pub bytes_behind : r.next < length s → Unsaid s
+  bytes_behind h w v q = omega (arith, length-drop r.next s, ap length (same w v q).1)
 
-    pub bytes_behind : r.next < length s → Unsaid s
-    bytes_behind h w v q = omega (arith, length-drop r.next s, ap length (same w v q).1)
+  pub ends_in_caret : r.last ≡ 18 → Unsaid s
+  ends_in_caret h w v q = go way.tail
+    where
+      opened : Open way.xs
+      opened = subst Open (ap (λ p. p.1) (same w v q).0) (trail_open w.trail v.rest)
 
-    pub at_caret_lem : r.last ≡ 18 → Unsaid s
-    at_caret_lem h w v q = go way.tail
-      where
-        opened : Open way.xs
-        opened = subst Open (ap (λ p. p.1) (same w v q).0) (trail_open w.trail v.rest)
+      go : Tail r.last way.xs → ⊥
+      go (at_key l o n) = omega arith
+      go (at_element l ys e f o) = omega arith
+      go (at_caret l ys f o) = not_open ys (subst Open f opened)
 
-        go : Tail r.last way.xs → ⊥
-        go (at_key l o n) = omega arith
-        go (at_element l ys e f o) = omega arith
-        go (at_caret l ys f o) = not_open ys (subst Open f opened)
+  pub a_place : length s ≤ r.next → (r.last ≡ 18 → ⊥) → ReadsPlaceWay s (Some r.way)
+  unfolding place_way_text
+  a_place h n =
+      record {
+        says =
+            says w
+            (record {
+              first = way.took.valid.0;
+              rest = m.valid;
+              reach = omega (arith, way.took.valid.1.0, ap length m.steps, trail_count m.trail);
+            })
+            (way.took.text
+            ∙ (ap (λ t. ways.text (way.top, way.xs) ++ t) (drop_of_length-le s h)
+            ∙ (append-nil (ways.text (way.top, way.xs)) ∙ ap (λ t. hex way.top ++ t)
+            (ap all_text (sym m.steps) ∙ sym (trail_text_lem m.trail)))));
+        answers = record {
+          keys = way.keys ∙ ap (λ t. pad 24 (key_words way.top ++ t)) (sym (trail_words_lem m.trail ∙ ap all_words m.steps));
+          count = way.count ∙ ap suc (sym (ap length m.steps) ∙ trail_count m.trail);
+        };
+      }
+    where
+      opened : Tail r.last way.xs → Open way.xs
+      opened (at_key l o q) = o
+      opened (at_element l ys e f o) = o
+      opened (at_caret l ys f o) = absurd (n l)
 
-    pub a_place : length s ≤ r.next → (r.last ≡ 18 → ⊥) → ReadsPlaceWay s (record { ok = true; way = r.way })
-    unfolding place_way_text
-    a_place h n =
-        record {
-          says =
-              says w
-              (record {
-                first = way.took.valid.0;
-                rest = m.valid;
-                reach = omega (arith, way.took.valid.1.0, ap length m.steps, trail_count m.trail);
-              })
-              (way.took.text
-              ∙ (ap (λ t. ways.text (way.top, way.xs) ++ t) (drop_of_length-le s h)
-              ∙ (append-nil (ways.text (way.top, way.xs)) ∙ ap (λ t. hex way.top ++ t)
-              (ap all_text (sym m.steps) ∙ sym (trail_text_lem m.trail)))));
-          answers = (
-            refl,
-            record {
-              keys = way.keys ∙ ap (λ t. pad 24 (key_words way.top ++ t)) (sym (trail_words_lem m.trail ∙ ap all_words m.steps));
-              count = way.count ∙ ap suc (sym (ap length m.steps) ∙ trail_count m.trail);
-            },
-          );
-        }
-      where
-        opened : Tail r.last way.xs → Open way.xs
-        opened (at_key l o q) = o
-        opened (at_element l ys e f o) = o
-        opened (at_caret l ys f o) = absurd (n l)
+      m : Made way.xs
+      m = made way.xs (opened way.tail)
 
-        m : Made way.xs
-        m = made way.xs (opened way.tail)
-
-        w : PlaceWay
-        w = record { top = way.top; trail = m.trail }
+      w : PlaceWay
+      w = record { top = way.top; trail = m.trail }
 
 -- A place's way and one byte more.
 
--- the last byte of a text
-last_byte : (p : List ℕ) (c : ℕ) (s : List ℕ) → s ≡ p ++ (c ∷ []) → get_or s (length s - 1) 0 ≡ c
-last_byte p c s e =
-    let l = length-append p (c ∷ []) in
-    let n : length p ≡ length s - 1 = omega (arith, ap length e) in
-    ap (λ t. get_or t (length s - 1) 0) e ∙ get_or_at p c [] 0 (length s - 1) n
-
-front : (s : List ℕ) (c : ℕ) → (length s ≡ 0 → ⊥) → get_or s (length s - 1) 0 ≡ c → s ≡ take (length s - 1) s ++ (c ∷ [])
-front s c h e =
-    let n : length s ≤ suc (length s - 1) = omega arith in
-    sym (take_all (suc (length s - 1)) s n) ∙ (take-suc s (length s - 1) 0 (omega arith) ∙ ap (λ x. take (length s - 1) s ++ (x ∷ [])) e)
-
-pub root : (s : List ℕ) → length s ≡ 0 → (r : PlaceRead) → r.ok ≡ true → r.way.keys ≡ pad 24 [] → r.way.n ≡ 0 → ReadsKeysWay s r
+pub root : (s : List ℕ) → length s ≡ 0 → ReadsKeysWay s (Some (record { keys = pad 24 []; n = 0 }))
 unfolding keys_way_text
-root [] h r e f g = record { says = says of_root tt refl; answers = (e, (f, g)) }
-root (x ∷ s) h r e f g = absurd (omega arith)
+root [] h = record { says = says of_root tt refl; answers = (refl, refl) }
+root (x ∷ s) h = absurd (omega arith)
 
-module _ (s : List ℕ) (some : length s ≡ 0 → ⊥) (r : PlaceRead) where
-  empty : s ≡ [] → ⊥
-  empty e = some (ap length e)
+-- whether a text ends in the byte c, as it is tested
+abbrev pub ends_in : ℕ → List ℕ → Bool
+ends_in c s = pointwise eqb (drop (length s - 1) s) (c ∷ [])
 
-  pub no_brace : (get_or s (length s - 1) 0 ≡ byte "{" → ⊥) → r ≡ no_place → ReadsKeysWay s r
+pub ahead : (c : ℕ) (s p : List ℕ) → ends_in c s ≡ true → p ≡ take (length s - 1) s → s ≡ p ++ (c ∷ [])
+ahead c s p h e =
+    sym (take-append-drop (length s - 1) s)
+    ∙ (ap (λ t. take (length s - 1) s ++ t) ((bytes_decides (drop (length s - 1) s) (c ∷ [])).0 h) ∙ ap (λ t. t ++ (c ∷ [])) (sym e))
+
+-- it ends in another byte, or in none
+not_behind : (c : ℕ) (s p : List ℕ) → ends_in c s ≡ false → s ≡ p ++ (c ∷ []) → ⊥
+not_behind c s p h e =
+    let n : length p ≡ length (p ++ (c ∷ [])) - 1 = omega (arith, length-append p (c ∷ [])) in
+    false≢true
+    (sym h
+    ∙ (bytes_decides (drop (length s - 1) s) (c ∷ [])).1
+    (ap (λ t. drop (length t - 1) t) e ∙ drop_at p (c ∷ []) (length (p ++ (c ∷ [])) - 1) n))
+
+pub no_brace : (s : List ℕ) → (length s ≡ 0 → ⊥) → ends_in (byte "{") s ≡ false → ReadsKeysWay s None
+unfolding keys_way_text
+no_brace s some h = record { says = says_nothing none; answers = tt }
+  where
+    none : (w : KeysWay) → ValidKeysWay w → s ≡ keys_way_text w → ⊥
+    none of_root v q = some (ap length q)
+    none (of_place w) v q = not_behind (byte "{") s (place_way_text w) h q
+
+pub no_bracket : (s : List ℕ) → ends_in (byte "[") s ≡ false → ReadsElementWay s None
+unfolding element_way_text
+no_bracket s h = record { says = says_nothing (λ w v q. not_behind (byte "[") s (place_way_text w) h q); answers = tt }
+
+module _ (s p : List ℕ) (r : Option Way) where
+  pub behind_brace : s ≡ p ++ ascii "{" → ReadsPlaceWay p r → ReadsKeysWay s r
   unfolding keys_way_text
-  no_brace h e = record { says = says_nothing none; answers = e }
+  behind_brace f k = go k.says r k.answers
     where
-      none : (w : KeysWay) → ValidKeysWay w → s ≡ keys_way_text w → ⊥
-      none of_root v q = empty q
-      none (of_place w) v q = h (last_byte (place_way_text w) (byte "{") s q)
-
-  pub behind_brace : get_or s (length s - 1) 0 ≡ byte "{" → ReadsPlaceWay (take (length s - 1) s) r → ReadsKeysWay s r
-  unfolding keys_way_text
-  behind_brace h k = go k.says k.answers
-    where
-      f : s ≡ take (length s - 1) s ++ ascii "{"
-      f = front s (byte "{") some h
-
-      go : (d : Says ValidPlaceWay place_way_text (take (length s - 1) s)) → Answers (MeansPlace r.way) (r ≡ no_place) r.ok d → ReadsKeysWay s r
-      go (says w v e) a = record { says = says (of_place w) v (f ∙ ap (λ t. t ++ ascii "{") e); answers = a }
-      go (says_nothing n) a = record { says = says_nothing none; answers = a }
+      go : (d : Says ValidPlaceWay place_way_text p) (r : Option Way) → Answers MeansPlace r d → ReadsKeysWay s r
+      go (says w v e) (Some x) a = record { says = says (of_place w) v (f ∙ ap (λ t. t ++ ascii "{") e); answers = a }
+      go (says w v e) None a = absurd a
+      go (says_nothing n) (Some x) a = absurd a
+      go (says_nothing n) None a = record { says = says_nothing none; answers = tt }
         where
           none : (w : KeysWay) → ValidKeysWay w → s ≡ keys_way_text w → ⊥
-          none of_root v q = empty q
-          none (of_place w) v q = n w v (append_cancel_right (take (length s - 1) s) (place_way_text w) (ascii "{") (sym f ∙ q))
+          none of_root v q = omega (arith, ap length (sym f ∙ q), length-append p (ascii "{"))
+          none (of_place w) v q = n w v (append_cancel_right p (place_way_text w) (ascii "{") (sym f ∙ q))
 
-  pub no_bracket : (get_or s (length s - 1) 0 ≡ byte "[" → ⊥) → r ≡ no_place → ReadsElementWay s r
+  pub behind_bracket : s ≡ p ++ ascii "[" → ReadsPlaceWay p r → ReadsElementWay s r
   unfolding element_way_text
-  no_bracket h e = record { says = says_nothing (λ w v q. h (last_byte (place_way_text w) (byte "[") s q)); answers = e }
-
-  pub behind_bracket : get_or s (length s - 1) 0 ≡ byte "[" → ReadsPlaceWay (take (length s - 1) s) r → ReadsElementWay s r
-  unfolding element_way_text
-  behind_bracket h k = go k.says k.answers
+  behind_bracket f k = go k.says r k.answers
     where
-      f : s ≡ take (length s - 1) s ++ ascii "["
-      f = front s (byte "[") some h
-
-      go : (d : Says ValidPlaceWay place_way_text (take (length s - 1) s)) → Answers (MeansPlace r.way) (r ≡ no_place) r.ok d → ReadsElementWay s r
-      go (says w v e) a = record { says = says w v (f ∙ ap (λ t. t ++ ascii "[") e); answers = a }
-      go (says_nothing n) a =
+      go : (d : Says ValidPlaceWay place_way_text p) (r : Option Way) → Answers MeansPlace r d → ReadsElementWay s r
+      go (says w v e) (Some x) a = record { says = says w v (f ∙ ap (λ t. t ++ ascii "[") e); answers = a }
+      go (says w v e) None a = absurd a
+      go (says_nothing n) (Some x) a = absurd a
+      go (says_nothing n) None a =
           record {
-            says = says_nothing (λ w v q. n w v (append_cancel_right (take (length s - 1) s) (place_way_text w) (ascii "[") (sym f ∙ q)));
-            answers = a;
+            says = says_nothing (λ w v q. n w v (append_cancel_right p (place_way_text w) (ascii "[") (sym f ∙ q)));
+            answers = tt;
           }
-
--- no bytes name no element
-pub no_bytes : (s : List ℕ) (r : PlaceRead) → length s ≡ 0 → r ≡ no_place → ReadsElementWay s r
-unfolding element_way_text
-no_bytes s r h e =
-    record { says = says_nothing (λ w v q. omega (arith, ap length q, length-append (place_way_text w) (ascii "["))); answers = e }

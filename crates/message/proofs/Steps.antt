@@ -3,26 +3,21 @@
 use Prim.Native.Nat.{ℕ, suc, ◌+◌, ◌≤◌, ◌<◌}
 use native.Mathlib.Omega.{arith}
 use mathlib.Core.Path.{◌≡◌, refl, sym, ap, ◌∙◌, subst}
-use mathlib.Core.Bool.{true, false}
 use mathlib.Core.List.{List, [], ◌∷◌, ◌++◌}
 use lib.ListN.{length, get_or, drop, drop_of_length-le}
 use lib.Seq.{drop-cons}
+use Rattle.std.proofs.Common.{Option, Some, None, add-one}
 use Rattle.meaning.specs.Ascii.{ascii, byte}
 use Rattle.meaning.specs.Ids.{counter_of, entry_of}
 use Rattle.meaning.specs.Text.{decimal, id_text, hex}
 use Rattle.theorems.specs.Decimal.{is_digit, is_hex, Stops, decimal-first}
 use Rattle.decimal.specs.Take.{Took, Never, fixed}
 use Rattle.decimal.specs.Numbers.{NoDigit}
-use Rattle.readers.specs.Reads.{keys, ids, either, ReadsId}
-use Rattle.readers.specs.Hex.{KeyTook, ReadsKey}
+use Rattle.readers.specs.Reads.{keys, ids}
+use Rattle.readers.specs.Hex.{ReadsKey}
 use Rattle.readers.specs.declared.Key.{Key}
-use Rattle.readers.specs.declared.IdRead.{IdRead}
-use Rattle.readers.specs.declared.IdRead.TheVariants as I
-use Rattle.readers.proofs.Texts.{next-drop}
 use Rattle.message.specs.Steps.{Step, key, element, caret, step_text, step_words, steps, Finished}
-use Rattle.message.specs.Reads.{StepTook, ReadsKeyStep, is_caret, is_element, ReadsListStep, ReadsStep}
-use Rattle.message.specs.declared.StepRead.{StepRead}
-use Rattle.message.specs.declared.StepRead.TheVariants as S
+use Rattle.message.specs.Reads.{is_caret, is_element, ReadsListStep, ReadsStep}
 
 -- an id's text doesn't begin with `^`
 no_caret : (e : ℕ) (t u : List ℕ) → id_text e ++ t ≡ byte "^" ∷ u → ⊥
@@ -33,12 +28,15 @@ no_caret e t u q =
     omega (arith, d.3, ap (λ l. get_or l 0 0) (sym (ap (λ l. (l ++ r) ++ t) d.2) ∙ q))
 
 module _ (s : List ℕ) (a : ℕ) (inside : a < length s) where
+  next_drop : drop a s ≡ get_or s a 0 ∷ drop (a + 1) s
+  next_drop = rw (add-one, drop-cons s a 0) refl
+
   -- a text with its first byte there
   at_byte : (c : ℕ) (t : List ℕ) → drop a s ≡ c ∷ t → (get_or s a 0 ≡ c) × (drop (a + 1) s ≡ t)
-  at_byte c t e = let f = sym (next-drop s a inside) ∙ e in (ap (λ l. get_or l 0 0) f, ap (λ l. drop 1 l) f)
+  at_byte c t e = let f = sym next_drop ∙ e in (ap (λ l. get_or l 0 0) f, ap (λ l. drop 1 l) f)
 
   begins : (c : ℕ) → get_or s a 0 ≡ c → drop a s ≡ c ∷ drop (a + 1) s
-  begins c h = next-drop s a inside ∙ ap (λ x. x ∷ drop (a + 1) s) h
+  begins c h = next_drop ∙ ap (λ x. x ∷ drop (a + 1) s) h
 
   pub key_step : get_or s a 0 ≡ byte "{" → (k : List ℕ) (n : ℕ) → Took keys s (a + 1) k n → Took steps s a (key k) n
   unfolding step_text
@@ -116,32 +114,34 @@ module _ (s : List ℕ) (a : ℕ) (inside : a < length s) where
       none (element k) t v m e = y (at_byte (byte "[") (id_text k ++ t) e).0
       none caret t v m e = y (at_byte (byte "[") (byte "^" ∷ t) e).0
 
-  pub finished_feed : get_or s a 0 ≡ byte "\n" → Finished (drop a s)
-  finished_feed h = rw (drop-cons s a 0 inside) h
-
-  unfinished : (get_or s a 0 ≡ byte "\n" → ⊥) → Finished (drop a s) → ⊥
+  pub unfinished : (get_or s a 0 ≡ byte "\n" → ⊥) → Finished (drop a s) → ⊥
   unfinished h f = h (subst Finished (drop-cons s a 0 inside) f)
 
   -- The reader of a step, by its first byte.
 
-  pub behind_brace : get_or s a 0 ≡ byte "{" → (r : StepRead) → ReadsKeyStep s (a + 1) r → ReadsStep s a r
+  pub behind_brace : get_or s a 0 ≡ byte "{" → (r : Option (Key × ℕ)) → ReadsKey s (a + 1) r → ReadsStep s a r
   unfolding step_words
-  behind_brace h (S.Step w n) k = record { step = key k.step; took = key_step h k.step n k.took; words = k.words }
-  behind_brace h S.End k = absurd k
-  behind_brace h S.Bad k = (no_key_step h k, unfinished (λ e. omega arith))
+  behind_brace h (Some (w, n)) k = record { step = key k.key; took = key_step h k.key n k.took; words = k.words }
+  behind_brace h None k = no_key_step h k
 
-  pub behind_bracket : get_or s a 0 ≡ byte "[" → (r : StepRead) → ReadsListStep s (a + 1) r → ReadsStep s a r
+  pub behind_bracket : get_or s a 0 ≡ byte "[" → (r : Option (Key × ℕ)) → ReadsListStep s (a + 1) r → ReadsStep s a r
   unfolding step_words
-  behind_bracket h (S.Step k n) (is_caret j w) = record { step = caret; took = caret_step h n j; words = w }
-  behind_bracket h (S.Step k n) (is_element e c j w) = record { step = element e; took = element_step h c e n j; words = w }
-  behind_bracket h S.End k = absurd k
-  behind_bracket h S.Bad k = (no_list_step h k.0 k.1, unfinished (λ e. omega arith))
+  behind_bracket h (Some (k, n)) (is_caret j w) = record { step = caret; took = caret_step h n j; words = w }
+  behind_bracket h (Some (k, n)) (is_element e c j w) = record { step = element e; took = element_step h c e n j; words = w }
+  behind_bracket h None k = no_list_step h k.0 k.1
 
-  pub neither : (get_or s a 0 ≡ byte "\n" → ⊥) → (get_or s a 0 ≡ byte "{" → ⊥) → (get_or s a 0 ≡ byte "[" → ⊥) → ReadsStep s a S.Bad
-  neither f x y = (no_step x y, unfinished f)
+-- no step stands where the text has ended
+pub no_step_past : (s : List ℕ) (a : ℕ) → length s ≤ a → Never steps s a
+unfolding step_text
+no_step_past s a h = record { not = none }
+  where
+    ended : drop a s ≡ []
+    ended = drop_of_length-le s h
 
-pub finished_end : (s : List ℕ) (a : ℕ) → length s ≤ a → Finished (drop a s)
-finished_end s a h = rw (drop_of_length-le s h) tt
+    none : (z : Step) (t : List ℕ) → steps.Valid z → steps.More z t → drop a s ≡ step_text z ++ t → ⊥
+    none (key k) t v m e = omega (arith, ap length (sym ended ∙ e))
+    none (element k) t v m e = omega (arith, ap length (sym ended ∙ e))
+    none caret t v m e = omega (arith, ap length (sym ended ∙ e))
 
 -- a step that stands is not the end
 pub stands_on : (s : List ℕ) (n m : ℕ) (x : Step) → Took steps s n x m → Finished (drop n s) → ⊥
@@ -158,19 +158,5 @@ pub finished_digit : (t : List ℕ) → Finished t → NoDigit t
 finished_digit [] f = tt
 finished_digit (c ∷ t) f = ap is_digit f
 
--- What the readers of keys, ids and steps said, where their answers are known.
-
-pub id_took : {s : List ℕ} {a i n : ℕ} (r : IdRead) → r ≡ I.Found i n → ReadsId s a r → Took ids s a i n
-id_took {s} {a} r e k = subst (ReadsId s a) e k
-
-pub id_none : {s : List ℕ} {a : ℕ} (r : IdRead) → r ≡ I.Bad → ReadsId s a r → Never ids s a
-id_none {s} {a} r e k = subst (ReadsId s a) e k
-
-pub step_took : {s : List ℕ} {a n : ℕ} {k : Key} (r : StepRead) → r ≡ S.Step k n → ReadsStep s a r → StepTook steps step_words s a k n
-step_took {s} {a} r e k = subst (ReadsStep s a) e k
-
-pub step_end : (s : List ℕ) (a : ℕ) (r : StepRead) → r ≡ S.End → ReadsStep s a r → Finished (drop a s)
-step_end s a r e k = subst (ReadsStep s a) e k
-
-pub step_none : (s : List ℕ) (a : ℕ) (r : StepRead) → r ≡ S.Bad → ReadsStep s a r → Never steps s a × (Finished (drop a s) → ⊥)
-step_none s a r e k = subst (ReadsStep s a) e k
+-- what a step's first byte says of it
+pub ruleset first_byte = (behind_brace, behind_bracket, no_step, no_step_past)

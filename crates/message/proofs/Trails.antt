@@ -3,7 +3,6 @@
 use Prim.Native.Nat.{ℕ, zero, suc, ◌+◌, ◌*◌, ◌≤◌, ◌<◌}
 use native.Mathlib.Omega.{arith}
 use mathlib.Core.Path.{◌≡◌, refl, sym, ap, ◌∙◌, subst}
-use mathlib.Core.Bool.{true, false}
 use mathlib.Core.List.{List, [], ◌∷◌, ◌++◌, append_assoc, append-nil}
 use lib.ListN.{length, get_or, drop, set, length-append}
 use Rattle.meaning.specs.Ascii.{byte}
@@ -11,17 +10,15 @@ use Rattle.theorems.specs.Decimal.{Stops}
 use Rattle.decimal.specs.Take.{Took, Never}
 use Rattle.decimal.proofs.Layouts.{no_first, no_second, both}
 use Rattle.readers.specs.Words.{key_words}
-use Rattle.readers.specs.Reads.{keys, either}
-use Rattle.readers.specs.Hex.{KeyTook, ReadsKey}
+use Rattle.readers.specs.Reads.{keys}
+use Rattle.readers.specs.Hex.{KeyTook}
 use Rattle.readers.specs.declared.Key.{Key}
-use Rattle.readers.specs.declared.KeyRead.{KeyRead}
-use Rattle.readers.specs.declared.KeyRead.TheVariants as K
 use Rattle.message.specs.Means.{pad}
 use Rattle.message.specs.Steps.{Step, key, element, caret, step_text, all_text}
 use Rattle.message.specs.Steps.{step_words, all_words, ValidStep, MoreStep, steps, Finished}
 use Rattle.message.specs.Steps.{Open, Good, InList, trails}
-use Rattle.message.specs.Reads.{StepTook, Tail, at_key, at_element, at_caret, ways, WayTook, ReadsWay}
-use Rattle.message.specs.declared.WayRead.{WayRead}
+use Rattle.message.specs.Reads.{with_key, StepTook, Tail, at_key, at_element, at_caret, ways, WayTook}
+use Rattle.message.specs.declared.Way.{Way}
 use Rattle.message.proofs.Steps.{stands_on, finished_stops, finished_digit}
 
 -- what follows a step, if further steps and then the end do
@@ -227,20 +224,17 @@ unfolding all_words
 words_length [] = refl
 words_length (x ∷ xs) = let a = length-append (step_words x) (all_words xs) in let b = step-length x in let c = words_length xs in omega arith
 
--- The loop's state: the first key and i - 1 steps are taken.
-pub record State (s : List ℕ) (a : ℕ) (ks : List ℕ) (last n i : ℕ) : Type 0 where
+-- The loop's state: the first key and the steps xs are taken.
+pub record State (s : List ℕ) (a : ℕ) (way : Way) (last n : ℕ) : Type 0 where
   pub top : List ℕ
   pub from : ℕ
   pub first : Took keys s a top from
   pub xs : List Step
   pub passed : Passed s from xs n
   pub tail : Tail last xs
-  pub words : ks ≡ pad 24 (key_words top ++ all_words xs)
-  pub count : i ≡ suc (length xs)
-  pub most : i ≤ 8
-
-pub key_took : {s : List ℕ} {a n : ℕ} {k : Key} (r : KeyRead) → r ≡ K.Found k n → ReadsKey s a r → KeyTook s a k n
-key_took {s} {a} r e k = subst (ReadsKey s a) e k
+  pub words : way.keys ≡ pad 24 (key_words top ++ all_words xs)
+  pub count : way.n ≡ suc (length xs)
+  pub most : way.n ≤ 8
 
 after_key : (x : List ℕ) (ys : List Step) (t : List ℕ) → trails.Valid ys → Finished t → Stops (all_text ys ++ t)
 unfolding all_text step_text
@@ -249,11 +243,11 @@ after_key x (key j ∷ ys) t v f = refl
 after_key x (element e ∷ ys) t v f = refl
 after_key x (caret ∷ ys) t v f = refl
 
-pub no_top : (s : List ℕ) (a : ℕ) (r : KeyRead) → r ≡ K.Bad → ReadsKey s a r → Never ways s a
-no_top s a r e k = no_first keys trails after_key s a (subst (ReadsKey s a) e k)
+pub no_top : (s : List ℕ) (a : ℕ) → Never keys s a → Never ways s a
+no_top s a h = no_first keys trails after_key s a h
 
 pub start : (s : List ℕ) (a : ℕ) (k : Key) (n : ℕ) → KeyTook s a k n
-    → State s a (set (set (set (pad 24 []) 0 k.hi) 1 k.lo) 2 k.len) k.len n 1
+    → State s a (with_key (record { keys = pad 24 []; n = 0 }) k) k.len n
 unfolding all_words pad
 start s a k n h =
     let l : k.len ≡ length h.key = ap (λ w. get_or w 2 0) h.words in
@@ -269,11 +263,11 @@ start s a k n h =
       most = omega arith;
     }
 
-module _ (s : List ℕ) (a : ℕ) (ks : List ℕ) (last n i : ℕ) (k : State s a ks last n i) where
+module _ (s : List ℕ) (a : ℕ) (way : Way) (last n : ℕ) (k : State s a way last n) where
   behind : Never trails s k.from → Never ways s a
   behind h = no_second keys trails after_key s a k.top k.from k.first h
 
-  pub end : Finished (drop n s) → WayTook s a (record { ok = true; way = record { keys = ks; n = i }; last = last; next = n })
+  pub end : Finished (drop n s) → WayTook s a (record { way = way; last = last; next = n })
   end f =
       record {
         top = k.top;
@@ -289,7 +283,7 @@ module _ (s : List ℕ) (a : ℕ) (ks : List ℕ) (last n i : ℕ) (k : State s 
   pub bad : Never steps s n → (Finished (drop n s) → ⊥) → Never ways s a
   bad h f = behind (stuck s k.from k.xs n k.passed h f)
 
-  module _ (f : Key) (m : ℕ) (j : StepTook steps step_words s n f m) where
+  module _ (f : Key) (m : ℕ) (j : StepTook s n f m) where
     pub closed : last ≡ 18 → Never ways s a
     closed e = go k.tail
       where
@@ -298,14 +292,15 @@ module _ (s : List ℕ) (a : ℕ) (ks : List ℕ) (last n i : ℕ) (k : State s 
         go (at_element h ys q p o) = absurd (omega arith)
         go (at_caret h ys p o) = behind (behind_caret s k.from k.xs n k.passed j.step m j.took ys p)
 
-    pub ninth : i ≡ 8 → Never ways s a
+    pub ninth : way.n ≡ 8 → Never ways s a
     ninth e = behind (too_many s k.from k.xs n k.passed j.step m j.took (omega (arith, k.count)))
 
-    pub more : (last ≡ 18 → ⊥) → (i ≡ 8 → ⊥) → State s a (set (set (set ks (3 * i) f.hi) (3 * i + 1) f.lo) (3 * i + 2) f.len) f.len m (i + 1)
+    pub more : (last ≡ 18 → ⊥) → (way.n ≡ 8 → ⊥) → State s a (with_key way f) f.len m
     unfolding all_words
     more c e =
         let x = j.step in
         let w = key_words k.top ++ all_words k.xs in
+        let i = way.n in
         let l : length w ≡ 3 * i = omega (arith, length-append (key_words k.top) (all_words k.xs), words_length k.xs, k.count) in
         let d = length-append k.xs (x ∷ []) in
         record {
@@ -325,6 +320,3 @@ module _ (s : List ℕ) (a : ℕ) (ks : List ℕ) (last n i : ℕ) (k : State s 
           count = omega (arith, k.count);
           most = omega (arith, k.most);
         }
-
-pub none : (s : List ℕ) (a : ℕ) (r : WayRead) → r.ok ≡ false → Never ways s a → ReadsWay s a r
-none s a r e h = subst (λ b. either b (WayTook s a r) (Never ways s a)) (sym e) h

@@ -1,11 +1,11 @@
 -- Ways and operations as the code holds them. A way is words, three for a key: those of its bytes for a map key, (id, 0, 17) for an
--- element id, (0, 0, 18) for `^`; and the number of its keys. What is done is an enum case, with a string's words beside it.
+-- element id, (0, 0, 18) for `^`; and the number of its keys. What is done is an enum case, with its value.
 -- Assumes nothing: these are definitions.
 use Rattle.std.specs.Prelude.{ℕ, zero, suc, ◌≡◌, List, [], ◌∷◌, ◌++◌}
 use Rattle.meaning.specs.Ways.{Prev, head, after, assign, delete, insert, into_map, into_list, steps}
 use Rattle.meaning.specs.Ways as M
 use Rattle.meaning.specs.Read.{Trail, here, by_key, by_element, trail_steps, PlaceWay}
-use Rattle.readers.specs.Words.{key_words, words_of, value_words}
+use Rattle.readers.specs.Words.{key_words}
 use Rattle.readers.specs.Given.{given_of}
 use Rattle.message.specs.declared.Way.{Way}
 use Rattle.message.specs.declared.Deed.{Deed}
@@ -41,7 +41,7 @@ pad zero w = []
 pad (suc n) [] = 0 ∷ pad n []
 pad (suc n) (x ∷ w) = x ∷ pad n w
 
--- what is done at a way's end, and the words of the value
+-- what is done at a way's end
 unfoldable pub deed_of : M.Way → Deed
 deed_of (assign a) = D.Assign (given_of a)
 deed_of delete = D.Delete
@@ -49,24 +49,16 @@ deed_of (insert p a) = D.Insert (given_of a)
 deed_of (into_map k w) = deed_of w
 deed_of (into_list e w) = deed_of w
 
-unfoldable pub deed_words : M.Way → List ℕ
-deed_words (assign a) = value_words a
-deed_words delete = words_of 4 []
-deed_words (insert p a) = value_words a
-deed_words (into_map k w) = deed_words w
-deed_words (into_list e w) = deed_words w
-
 -- the way of an edit, and what is done there
-pub record MeansEdit (way : Way) (d : Deed) (value top : List ℕ) (w : M.Way) : Type 0 where
+pub record MeansEdit (way : Way) (d : Deed) (top : List ℕ) (w : M.Way) : Type 0 where
   pub keys : way.keys ≡ pad 24 (key_words top ++ way_words w)
   pub count : way.n ≡ suc (steps w)
   pub deed : d ≡ deed_of w
-  pub words : value ≡ deed_words w
 
 pub record Means (op : Operation) (o : M.Operation) : Type 0 where
   pub id : op.act.id ≡ o.id
   pub deps : op.act.deps.at ≡ o.deps
-  pub edit : MeansEdit op.way op.act.deed op.act.words o.top o.way
+  pub edit : MeansEdit op.way op.act.deed o.top o.way
 
 -- the way of a place
 pub record MeansPlace (way : Way) (w : PlaceWay) : Type 0 where

@@ -10,7 +10,6 @@ use Rattle.theorems.specs.Decimal.{Stops}
 use Rattle.decimal.specs.Take.{Layout}
 use Rattle.decimal.specs.Numbers.{NoDigit}
 use Rattle.readers.specs.Words.{key_words}
-use Rattle.readers.specs.Reads.{keys}
 use Rattle.message.specs.Means.{element_words, head_words}
 
 pub data Step : Type 0 where

@@ -1,192 +1,122 @@
 // The way of a message, key by key, and the ways of the three reads.
-ghost use Rattle.std.specs.Prelude.{◌≡◌, false};
-ghost use Rattle.decimal.specs.Powers.{powers_of_ten};
-ghost use Rattle.message.specs.Reads.{ReadsStep, ReadsKeyStep, ReadsListStep, ReadsWay};
-ghost use Rattle.message.specs.Promises.{no_place, ReadsPlaceWay, ReadsKeysWay, ReadsElementWay};
+ghost use Rattle.std.specs.Prelude.{◌≡◌, ◌+◌, ◌*◌, ◌<◌, ◌↔◌, IsTrue, drop, slice_set};
+ghost use Rattle.message.specs.Steps.{Finished};
+ghost use Rattle.message.specs.Reads.{ReadsStep, ReadsListStep, ReadsWay, with_key};
+ghost use Rattle.message.specs.Promises.{ReadsPlaceWay, ReadsKeysWay, ReadsElementWay};
 
-use crate::{PlaceRead, StepRead, Way, WayRead};
-use readers::{CARET, ELEMENT, IdRead, Key, KeyRead, Past};
+use crate::Way;
+use readers::{CARET, ELEMENT, Key, take_byte, take_id, take_key};
 
-// The key behind `{`.
-fn take_key_step(s: &[u8], a: usize) -> StepRead
-    ensures { ReadsKeyStep s.now a result }
+// The way of the root.
+const ROOT: Way = Way {
+    keys: [0u64; 24],
+    n: 0,
+};
+
+// A way that was read, the third word of its last key, and the place behind it.
+#[derive(Clone, Copy)]
+pub struct WayRead {
+    pub way: Way,
+    pub last: u64,
+    pub next: usize,
+}
+
+// The way with a key more. Word by word: a copy of an array made of the three says no more.
+fn put_key(way: &mut Way, key: Key)
+    requires { way.old.n < 8 }
+    ensures { way.new ≡ with_key way.old key }
 {
-    match readers::take_key(s, a) {
-        KeyRead::Found { key, next } => StepRead::Step { key, next },
-        KeyRead::Bad => StepRead::Bad,
-    }
+    let i = 3 * way.n;
+    way.keys[i] = key.hi;
+    way.keys[i + 1] = key.lo;
+    way.keys[i + 2] = key.len;
+    way.n += 1;
+}
+
+// Whether a way ends here: its line does, or the text.
+fn ends(s: &[u8], a: usize) -> bool
+    ensures { IsTrue result ↔ Finished (drop a s.now) }
+{
+    matches!(s.get(a), None | Some(b'\n'))
 }
 
 // The element id or `^` behind `[`.
-fn take_list_step(s: &[u8], a: usize, powers: &[u64; 20]) -> StepRead
-    requires { powers.now ≡ powers_of_ten }
+fn take_list_step(s: &[u8], a: usize) -> Option<(Key, usize)>
     ensures { ReadsListStep s.now a result }
 {
-    let Past::At(next) = readers::take_byte(s, a, b'^') else {
-        let IdRead::Found { id, next } = readers::take_id(s, a, powers) else {
-            return StepRead::Bad;
-        };
+    if let Some(next) = take_byte(s, a, b'^') {
         let key = Key {
-            hi: id,
+            hi: 0,
             lo: 0,
-            len: ELEMENT,
+            len: CARET,
         };
-        return StepRead::Step { key, next };
-    };
+        return Some((key, next));
+    }
+    let (id, next) = take_id(s, a)?;
     let key = Key {
-        hi: 0,
+        hi: id,
         lo: 0,
-        len: CARET,
+        len: ELEMENT,
     };
-    StepRead::Step { key, next }
+    Some((key, next))
 }
 
-// A step of a way, or its end.
-fn take_step(s: &[u8], a: usize, powers: &[u64; 20]) -> StepRead
-    requires { powers.now ≡ powers_of_ten }
+// A step of a way: `{` and a key, or `[` and what follows it.
+#[tactic(auto, using(crate::proofs::Steps::first_byte))]
+fn take_step(s: &[u8], a: usize) -> Option<(Key, usize)>
     ensures { ReadsStep s.now a result }
 {
-    if s.len() <= a {
-        return StepRead::End;
-    }
-    let b = s[a];
-    if b == b'\n' {
-        return StepRead::End;
-    }
-    let n = a + 1;
-    if b == b'{' {
-        return take_key_step(s, n);
-    }
-    if b == b'[' {
-        return take_list_step(s, n, powers);
-    }
-    StepRead::Bad
-}
-
-fn no_way() -> WayRead
-    ensures { result.ok ≡ false }
-{
-    WayRead {
-        ok: false,
-        way: Way {
-            keys: [0u64; 24],
-            n: 0,
-        },
-        last: 0,
-        next: 0,
+    match *s.get(a)? {
+        b'{' => take_key(s, a + 1),
+        b'[' => take_list_step(s, a + 1),
+        _ => None,
     }
 }
 
-// A way: one to eight keys, `^` only last.
-pub fn take_way(s: &[u8], a: usize, powers: &[u64; 20]) -> WayRead
-    requires { powers.now ≡ powers_of_ten }
+// A way: one to eight keys, `^` only last. It counts its keys itself, so the loop has no index, and no `for` is plainer.
+pub fn take_way(s: &[u8], a: usize) -> Option<WayRead>
     ensures { ReadsWay s.now a result }
 {
-    let mut keys = [0u64; 24];
-    let KeyRead::Found {
-        key: k,
-        next: behind,
-    } = readers::take_key(s, a)
-    else {
-        return no_way();
-    };
-    keys[0] = k.hi;
-    keys[1] = k.lo;
-    keys[2] = k.len;
-    let mut last = k.len;
-    let mut n = behind;
-    let mut i: usize = 1;
-    while i <= 8 {
-        let x = take_step(s, n, powers);
-        match x {
-            StepRead::End => return WayRead {
-                ok: true,
-                way: Way { keys, n: i },
-                last,
-                next: n,
-            },
-            StepRead::Bad => return no_way(),
-            StepRead::Step { key, next } => {
-                if last == CARET {
-                    return no_way();
-                }
-                if i == 8 {
-                    return no_way();
-                }
-                keys[3 * i] = key.hi;
-                keys[3 * i + 1] = key.lo;
-                keys[3 * i + 2] = key.len;
-                last = key.len;
-                n = next;
-                i += 1;
-            }
+    let mut way = ROOT;
+    let (first, mut next) = take_key(s, a)?;
+    put_key(&mut way, first);
+    let mut last = first.len;
+    while !ends(s, next) {
+        let (key, behind) = take_step(s, next)?;
+        if last == CARET || way.n == 8 {
+            return None;
         }
+        put_key(&mut way, key);
+        last = key.len;
+        next = behind;
     }
-    no_way()
-}
-
-#[tactic(auto, unfolding(crate::specs::Means::pad))]
-fn no_place() -> PlaceRead
-    ensures { result ≡ no_place }
-{
-    PlaceRead {
-        ok: false,
-        way: Way {
-            keys: [0u64; 24],
-            n: 0,
-        },
-    }
+    Some(WayRead { way, last, next })
 }
 
 // The way of a place, as a read for values is given it.
-pub fn take_place_way(s: &[u8]) -> PlaceRead
+pub fn take_place_way(s: &[u8]) -> Option<Way>
     ensures { ReadsPlaceWay s.now result }
 {
-    let powers = decimal::powers();
-    let w = take_way(s, 0, &powers);
-    if !w.ok {
-        return no_place();
+    let w = take_way(s, 0)?;
+    if w.next < s.len() || w.last == CARET {
+        return None;
     }
-    if w.next < s.len() {
-        return no_place();
-    }
-    if w.last == CARET {
-        return no_place();
-    }
-    let way = w.way;
-    PlaceRead { ok: true, way }
+    Some(w.way)
 }
 
 // The way of a read for keys: a place's and `{`, or no bytes for the root.
-pub fn take_keys_way(s: &[u8]) -> PlaceRead
+pub fn take_keys_way(s: &[u8]) -> Option<Way>
     ensures { ReadsKeysWay s.now result }
 {
-    if s.len() == 0 {
-        return PlaceRead {
-            ok: true,
-            way: Way {
-                keys: [0u64; 24],
-                n: 0,
-            },
-        };
+    if s.is_empty() {
+        return Some(ROOT);
     }
-    let last = s.len() - 1;
-    if s[last] != b'{' {
-        return no_place();
-    }
-    take_place_way(&s[..last])
+    take_place_way(s.strip_suffix(b"{")?)
 }
 
 // The way of a read for an element: a place's and `[`.
-pub fn take_element_way(s: &[u8]) -> PlaceRead
+pub fn take_element_way(s: &[u8]) -> Option<Way>
     ensures { ReadsElementWay s.now result }
 {
-    if s.len() == 0 {
-        return no_place();
-    }
-    let last = s.len() - 1;
-    if s[last] != b'[' {
-        return no_place();
-    }
-    take_place_way(&s[..last])
+    take_place_way(s.strip_suffix(b"[")?)
 }

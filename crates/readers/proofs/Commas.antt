@@ -14,19 +14,19 @@ use Rattle.meaning.specs.Valid.{ValidCounters}
 use Rattle.theorems.specs.Decide.{Tri, less, same, more, tri}
 use Rattle.decimal.specs.Take.{Took, Never, fixed}
 use Rattle.decimal.specs.Numbers.{numbers, NoDigit, ReadsNumber}
-use Rattle.decimal.specs.declared.Number.{Number}
-use Rattle.decimal.specs.declared.Number.TheVariants.{Value, Bad}
+use Rattle.std.specs.Prelude.{Option, None, Some}
 use Rattle.decimal.proofs.Digits.{cancel}
-use Rattle.readers.specs.Reads.{comma_numbers, counters}
+use Rattle.meaning.specs.declared.Counters.{Counters}
+use Rattle.readers.specs.Reads.{comma_numbers, counters, ReadsCounters}
 
 -- A comma and a number.
 
 pub no_comma : (s : List ℕ) (a : ℕ) → Never (fixed (ascii ",")) s a → Never comma_numbers s a
 no_comma s a h = record { not = λ x t v m e. h.not tt (decimal x ++ t) tt tt e }
 
-pub behind_comma : (s : List ℕ) (a n : ℕ) → Took (fixed (ascii ",")) s a tt n → (r : Number) → ReadsNumber (numbers 0 4294967295) s n r
+pub behind_comma : (s : List ℕ) (a n : ℕ) → Took (fixed (ascii ",")) s a tt n → (r : Option (ℕ × ℕ)) → ReadsNumber (numbers 0 4294967295) s n r
     → ReadsNumber comma_numbers s a r
-behind_comma s a n h (Value x m) k =
+behind_comma s a n h (Some (x, m)) k =
     record {
       valid = k.valid.1;
       text = h.text ∙ ap (λ t. ascii "," ++ t) k.text;
@@ -34,7 +34,7 @@ behind_comma s a n h (Value x m) k =
       within = λ o. k.within (h.within o);
       only = λ y t v o e. k.only y t (omega arith, v) o (cancel (ascii ",") (drop n s) (decimal y ++ t) (sym h.text ∙ e));
     }
-behind_comma s a n h Bad k =
+behind_comma s a n h None k =
     record { not = λ x t v m e. k.not x t (omega arith, v) m (cancel (ascii ",") (drop n s) (decimal x ++ t) (sym h.text ∙ e)) }
 
 -- what may follow a number may follow it with further ones between
@@ -178,3 +178,7 @@ module _ (s : List ℕ) (a i n : ℕ) (v : List ℕ) (st : State s a i n v) wher
           by (less g) = st.each k (omega arith)
           by (same g) = omega (arith, get_or-eq_default v 0 {n = k} (omega (arith, st.long)))
           by (more g) = omega (arith, get_or-eq_default v 0 {n = k} (omega (arith, st.long)))
+
+-- what is answered where no counters stand
+pub counters_refused : {s : List ℕ} {a : ℕ} (r : Option (Counters × ℕ)) → r ≡ None → Never counters s a → ReadsCounters s a r
+counters_refused {s} {a} r e k = subst (ReadsCounters s a) (sym e) k

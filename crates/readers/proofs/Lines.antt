@@ -1,75 +1,63 @@
--- Looking for the end of a line.
+-- A line is what stands in front of the first line feed.
 -- Assumes nothing.
-use Prim.Native.Nat.{ℕ, suc, ◌+◌, ◌-◌, ◌≤◌, ◌<◌}
+use Prim.Native.Nat.{ℕ, suc, ◌+◌}
 use native.Mathlib.Omega.{arith}
-use mathlib.Core.Path.{◌≡◌, sym, ap, ◌∙◌, subst}
+use mathlib.Core.Path.{◌≡◌, refl, sym, ap, ◌∙◌, subst}
+use mathlib.Core.Bool.{Bool, true, false, true≢false, not}
 use mathlib.Core.List.{List, [], ◌∷◌, ◌++◌}
-use lib.ListN.{length, get_or, take, drop, take-append-drop, length-drop, drop_of_length-le}
-use lib.Seq.{take-suc, drop-drop, drop-cons, get_or-drop, length-take-le}
+use lib.ListN.{length, take, drop, take-append-drop, length-drop}
+use lib.Seq.{drop-drop}
+use Rattle.std.specs.Prelude.{◌==◌, cond, position}
+use Rattle.std.specs.Option.{unwrap_or}
+use Rattle.std.specs.List.{position_or_len}
+use Rattle.std.proofs.lemmas.Bool.Decides.{Decides-eqb}
+use Rattle.std.proofs.lemmas.Grind.{common_steps}
+use Rattle.std.proofs.lemmas.List.Folds.{length-prefix_len}
+use Rattle.std.proofs.lemmas.List.Sums.{prefix_len-le-length}
 use Rattle.meaning.specs.Ascii.{byte}
 use Rattle.readers.specs.Lines.{Unbroken, Ended, IsLine}
 
--- no line feed stands from a to e
-pub record Sought (s : List ℕ) (a e : ℕ) : Type 0 where
-  pub from : a ≤ e
-  pub most : e ≤ length s
-  pub unbroken : Unbroken (take (e - a) (drop a s))
+abbrev pub feed : ℕ → Bool
+feed b = b == byte "\n"
 
-pub start : (s : List ℕ) (a : ℕ) → a ≤ length s → Sought s a a
-start s a h = record {
-  from = omega arith;
-  most = h;
-  unbroken = let e : 0 ≡ a - a = omega arith in subst
-      (λ (n : ℕ). Unbroken (take n (drop a s))) e tt;
-}
+-- how long the first line of a text is
+abbrev pub line_length : List ℕ → ℕ
+line_length = position_or_len feed
 
-unbroken_more : (l : List ℕ) (c : ℕ) → Unbroken l → (c ≡ byte "\n" → ⊥) → Unbroken (l ++ (c ∷ []))
-unbroken_more [] c u h = (h, tt)
-unbroken_more (x ∷ l) c u h = (u.0, unbroken_more l c u.1 h)
+-- the length where no line feed stands
+pub found : (r : List ℕ) → unwrap_or (position feed r) (length r) ≡ line_length r
+found r = let h = prefix_len-le-length (λ b. not (feed b)) r in grind (arith, common_steps)
 
-module _ (s : List ℕ) (a e : ℕ) (k : Sought s a e) where
-  pub more : e < length s → (get_or s e 0 ≡ byte "\n" → ⊥) → Sought s a (e + 1)
-  more h g =
-      let n : suc (e - a) ≡ e + 1 - a = omega (arith, k.from) in
-      let m : a + (e - a) ≡ e = omega (arith, k.from) in
-      let c : get_or (drop a s) (e - a) 0 ≡ get_or s e 0 = get_or-drop a s (e - a) 0 ∙ ap (λ i. get_or s i 0) m in
-      let t = take-suc (drop a s) (e - a) 0 (omega (arith, length-drop a s, k.from)) in
-      record {
-        from = omega (arith, k.from);
-        most = omega arith;
-        unbroken =
-            subst (λ (i : ℕ). Unbroken (take i (drop a s))) n
-            (subst Unbroken (sym t) (unbroken_more (take (e - a) (drop a s)) (get_or (drop a s) (e - a) 0) k.unbroken
-            (λ q. g (sym c ∙ q))));
-      }
+unbroken : (r : List ℕ) → Unbroken (take (line_length r) r)
+unbroken [] = tt
+unbroken (c ∷ r) = go (feed c) (λ e q. true≢false (sym ((Decides-eqb c (byte "\n")).1 q) ∙ e)) (unbroken r)
+  where
+    go : (b : Bool) → (b ≡ false → c ≡ byte "\n" → ⊥) → Unbroken (take (line_length r) r)
+        → Unbroken (take (cond (not b) (1 + line_length r) 0) (c ∷ r))
+    go true h u = tt
+    go false h u =
+        let e : suc (line_length r) ≡ 1 + line_length r = omega arith in
+        subst (λ (n : ℕ). Unbroken (take n (c ∷ r))) e (h refl, u)
 
-  done : Ended (drop e s) → IsLine s a (take (e - a) (drop a s))
-  done h =
-      let l : length (take (e - a) (drop a s)) ≡ e - a = length-take-le (e - a) (drop a s)
-      (omega (arith, length-drop a s, k.from, k.most)) in
-      let m : a + length (take (e - a) (drop a s)) ≡ e = omega (arith, k.from) in
-      let o : a + (e - a) ≡ e = omega (arith, k.from) in
-      record {
-        text =
-            sym (take-append-drop (e - a) (drop a s))
-            ∙ ap (λ t. take (e - a) (drop a s) ++ t) (drop-drop (e - a) a s ∙ ap (λ i. drop i s) (o ∙ sym m));
-        unbroken = k.unbroken;
-        ended = subst (λ (i : ℕ). Ended (drop i s)) (sym m) h;
-        within = λ i. omega (arith, k.most);
-      }
+ended : (r : List ℕ) → Ended (drop (line_length r) r)
+ended [] = tt
+ended (c ∷ r) = go (feed c) (Decides-eqb c (byte "\n")).0 (ended r)
+  where
+    go : (b : Bool) → (b ≡ true → c ≡ byte "\n") → Ended (drop (line_length r) r)
+        → Ended (drop (cond (not b) (1 + line_length r) 0) (c ∷ r))
+    go true h u = h refl
+    go false h u =
+        let e : suc (line_length r) ≡ 1 + line_length r = omega arith in subst (λ (n : ℕ). Ended (drop n (c ∷ r))) e u
 
-  pub at-feed : e < length s → get_or s e 0 ≡ byte "\n" → IsLine s a (take (e - a) (drop a s))
-  at-feed h g = done (rw (drop-cons s e 0 h) g)
-
-  pub at_end : length s ≤ e → IsLine s a (take (e - a) (drop a s))
-  at_end h = done (rw (drop_of_length-le s h) tt)
-
-pub beyond : (s : List ℕ) (a : ℕ) → length s ≤ a → IsLine s a []
-beyond s a h =
-    let e : a ≡ a + 0 = omega arith in
+-- it is a line
+pub line_at : (s r : List ℕ) (a n : ℕ) → r ≡ drop a s → n ≡ line_length r → IsLine s a (take n r)
+line_at s r a n e k =
+    let l : length (take n r) ≡ n = ap (λ i. length (take i r)) k ∙ (length-prefix_len (λ b. not (feed b)) r ∙ sym k) in
+    let m : a + length (take n r) ≡ a + n = omega arith in
+    let d : drop n r ≡ drop (a + length (take n r)) s = ap (drop n) e ∙ (drop-drop n a s ∙ ap (λ i. drop i s) (sym m)) in
     record {
-      text = ap (λ n. drop n s) e;
-      unbroken = tt;
-      ended = subst (λ (n : ℕ). Ended (drop n s)) e (rw (drop_of_length-le s h) tt);
-      within = λ i. omega arith;
+      text = sym e ∙ (sym (take-append-drop n r) ∙ ap (λ t. take n r ++ t) d);
+      unbroken = subst (λ (i : ℕ). Unbroken (take i r)) (sym k) (unbroken r);
+      ended = subst Ended (ap (λ i. drop i r) (sym k) ∙ d) (ended r);
+      within = λ h. omega (arith, prefix_len-le-length (λ b. not (feed b)) r, ap length e, length-drop a s);
     }

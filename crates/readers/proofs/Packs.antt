@@ -1,20 +1,27 @@
 -- Bytes packed into words.
 -- Assumes nothing.
-use Prim.Native.Nat.{ℕ, zero, suc, ◌+◌, ◌-◌, ◌*◌, ◌≤◌, ◌<◌}
+use Prim.Native.Nat.{ℕ, zero, suc, ◌+◌, ◌-◌, ◌*◌, ◌≤◌, ◌<◌, ◌^◌}
 use native.Mathlib.Omega.{arith}
 use mathlib.Core.Path.{◌≡◌, refl, sym, ap, ◌∙◌}
 use mathlib.Core.List.{List, [], ◌∷◌, ◌++◌}
 use lib.ListN.{length, drop, set, drop_of_length-le, length-drop}
 use lib.Seq.{drop-append-le}
+use Rattle.std.proofs.lemmas.Nat.{pow-add}
 use Rattle.readers.specs.Words.{weight, pack, words_of}
 
-pub pack_nil : (m : ℕ) → pack m [] ≡ 0
+-- each byte is worth 256 of the next
+pub weight_power : (m : ℕ) → weight m ≡ 2 ^ (8 * m)
+unfolding weight
+weight_power zero = refl
+weight_power (suc m) = let e : 8 * suc m ≡ 8 + 8 * m = omega arith in rw (e, pow-add 2 8 (8 * m), weight_power m)
+
+pack_nil : (m : ℕ) → pack m [] ≡ 0
 unfolding pack
 pack_nil zero = refl
 pack_nil (suc m) = refl
 
 -- what follows the first m bytes is not looked at
-pub pack_front : (m : ℕ) (k j : List ℕ) → m ≤ length k → pack m (k ++ j) ≡ pack m k
+pack_front : (m : ℕ) (k j : List ℕ) → m ≤ length k → pack m (k ++ j) ≡ pack m k
 unfolding pack
 pack_front zero k j h = refl
 pack_front (suc m) [] j h = absurd (omega arith)

@@ -3,75 +3,30 @@
 use Prim.Native.Nat.{ℕ, ◌+◌, ◌≤◌, ◌<◌}
 use native.Mathlib.Omega.{arith}
 use mathlib.Core.Path.{◌≡◌, refl, sym, ap, ◌∙◌, subst}
-use mathlib.Core.Bool.{Bool, true, false}
+use mathlib.Core.Bool.{true, false}
 use mathlib.Core.List.{List, [], ◌∷◌, ◌++◌}
-use lib.IntN.{ℤ, pos, negsuc}
+use lib.IntN.{ℤ}
 use lib.Dec.{eqb}
+use Rattle.std.proofs.lemmas.List.{drop_more}
+use Rattle.std.specs.Prelude.{Option, Some, None, MatchBool}
 use lib.ListN.{length, get_or, drop, drop_of_length-le}
 use Rattle.meaning.specs.Ascii.{byte}
 use Rattle.meaning.specs.Places.{Plain, null, bool, integer, string}
 use Rattle.meaning.specs.Ways.{Assigned, plain, empty_map, empty_list}
 use Rattle.meaning.specs.Text.{integer_text, hex, plain_text, assigned_text}
 use Rattle.decimal.specs.Take.{Layout, Took, Never, fixed}
-use Rattle.readers.specs.Words.{words_of, value_words}
-use Rattle.readers.specs.Reads.{integers, strings, plains, assigned, either, MorePlain, MoreAssigned}
-use Rattle.readers.specs.Hex.{HexTook, ReadsString}
-use Rattle.readers.specs.Given.{given_of, GivenTook, ReadsPlain, ReadsAssigned, ReadsNumberValue, ReadsBytesValue, Bare}
+use Rattle.readers.specs.Reads.{integers, strings, plains, assigned, MorePlain, MoreAssigned}
+use Rattle.readers.specs.Given.{given_of, GivenTook, ReadsGiven, ReadsPlain, ReadsAssigned, ReadsNumberValue, ReadsBytesValue}
 use Rattle.readers.specs.declared.Given.{Given}
 use Rattle.readers.specs.declared.Given.TheVariants as G
-use Rattle.readers.specs.declared.GivenRead.{GivenRead}
-use Rattle.readers.specs.declared.StringRead.{StringRead}
-use Rattle.readers.proofs.Texts.{next-drop}
 
--- Answers.
-
-module _ {X : Type 0} (L : Layout X) (of : X → Assigned) (s : List ℕ) (a : ℕ) (r : GivenRead) where
-  abbrev pub Reads : Type 0
-  Reads = either r.ok (GivenTook L of s a r) (Never L s a)
-
-  pub answered : (g : Given) (n : ℕ) → Bare g n r → (x : X) → Took L s a x n → given_of (of x) ≡ g → value_words (of x) ≡ words_of 4 [] → Reads
-  answered g n b x k p q =
-      subst (λ o. either o (GivenTook L of s a r) (Never L s a)) (sym b.ok)
-      (record { value = x; took = subst (Took L s a x) (sym b.next) k; given = b.given ∙ sym p; words = b.words ∙ sym q })
-
-  pub refusing : r.ok ≡ false → Never L s a → Reads
-  refusing e h = subst (λ o. either o (GivenTook L of s a r) (Never L s a)) (sym e) h
-
--- the same answer, for another kind of value
-pub renamed : {X Y : Type 0} (L : Layout X) (of : X → Assigned) (M : Layout Y) (to : Y → Assigned) (s : List ℕ) (a b : ℕ) (r : GivenRead)
-    (f : X → Y) → ((x : X) → to (f x) ≡ of x) → ((x : X) (n : ℕ) → Took L s a x n → Took M s b (f x) n) → (Never L s a → Never M s b)
-    → Reads L of s a r → Reads M to s b r
-renamed L of M to s a b r f same took none = go r.ok
-  where
-    go : (o : Bool) → either o (GivenTook L of s a r) (Never L s a) → either o (GivenTook M to s b r) (Never M s b)
-    go true k =
-        record {
-          value = f k.value;
-          took = took k.value r.next k.took;
-          given = k.given ∙ ap given_of (sym (same k.value));
-          words = k.words ∙ ap value_words (sym (same k.value));
-        }
-    go false k = none k
-
--- Integers and strings.
-
-pub non_neg_value : (s : List ℕ) (a n m : ℕ) (r : GivenRead) → Bare (G.NonNeg n) m r → Took integers s a (pos n) m → ReadsNumberValue s a r
-unfolding given_of value_words
-non_neg_value s a n m r b k = answered integers (λ z. plain (integer z)) s a r (G.NonNeg n) m b (pos n) k refl refl
-
-pub neg_value : (s : List ℕ) (a n m : ℕ) (r : GivenRead) → Bare (G.Neg n) m r → Took integers s a (negsuc n) m → ReadsNumberValue s a r
-unfolding given_of value_words
-neg_value s a n m r b k = answered integers (λ z. plain (integer z)) s a r (G.Neg n) m b (negsuc n) k refl refl
-
-pub string_value : (s : List ℕ) (a : ℕ) (r : StringRead) → ReadsString s a r
-    → ReadsBytesValue s a (record { ok = r.ok; given = G.String r.len; words = r.words; next = r.next })
-unfolding given_of value_words
-string_value s a r = go r.ok
-  where
-    go : (o : Bool) → either o (HexTook strings s a r) (Never strings s a)
-        → ReadsBytesValue s a (record { ok = o; given = G.String r.len; words = r.words; next = r.next })
-    go true k = record { value = k.bytes; took = k.took; given = ap G.String k.long; words = k.words }
-    go false k = k
+-- The same answer, for another kind of value.
+pub renamed : {X Y : Type 0} (L : Layout X) (of : X → Assigned) (M : Layout Y) (to : Y → Assigned) (s : List ℕ) (a b : ℕ) (f : X → Y)
+    → ((x : X) → to (f x) ≡ of x) → ((x : X) (n : ℕ) → Took L s a x n → Took M s b (f x) n) → (Never L s a → Never M s b)
+    → (r : Option (Given × ℕ)) → ReadsGiven L of s a r → ReadsGiven M to s b r
+renamed L of M to s a b f same took none (Some (g, n)) k =
+    record { value = f k.value; took = took k.value n k.took; given = k.given ∙ ap given_of (sym (same k.value)) }
+renamed L of M to s a b f same took none None k = none k
 
 -- Plain values: a letter, and what follows it.
 
@@ -120,11 +75,11 @@ string_made = record { same = λ b. refl; valid = λ b v. v; was_valid = λ b v.
 -- what the letter says of a value
 abbrev Of : ℕ → Plain → Type 0
 Of c v =
-    either (eqb c (byte "n")) (v ≡ null)
-    (either (eqb c (byte "t")) (v ≡ bool true)
-    (either (eqb c (byte "f")) (v ≡ bool false)
-    (either (eqb c (byte "i")) ((n : ℤ) × (v ≡ integer n))
-    (either (eqb c (byte "s")) ((b : List ℕ) × (v ≡ string b)) ⊥))))
+    MatchBool (eqb c (byte "n")) (v ≡ null)
+    (MatchBool (eqb c (byte "t")) (v ≡ bool true)
+    (MatchBool (eqb c (byte "f")) (v ≡ bool false)
+    (MatchBool (eqb c (byte "i")) ((n : ℤ) × (v ≡ integer n))
+    (MatchBool (eqb c (byte "s")) ((b : List ℕ) × (v ≡ string b)) ⊥))))
 
 says : (v : Plain) → Of (letter v) v
 unfolding letter
@@ -141,19 +96,23 @@ no_plain_end s a h = record {
       (arith, ap length (sym (drop_of_length-le s h) ∙ (e ∙ ap (λ l. l ++ t) (lettered v))));
 }
 
-module _ (s : List ℕ) (a : ℕ) (inside : a < length s) where
-  apart : (v : Plain) (t : List ℕ) → drop a s ≡ plain_text v ++ t → get_or s a 0 ∷ drop (a + 1) s ≡ letter v ∷ (body v ++ t)
-  apart v t e = sym (next-drop s a inside) ∙ (e ∙ ap (λ l. l ++ t) (lettered v))
+-- the letter c stands at a
+module _ (s : List ℕ) (a c : ℕ) (at : (a < length s) × ((d : ℕ) → c ≡ get_or s a d)) where
+  opens : drop a s ≡ c ∷ drop (a + 1) s
+  opens = drop_more s a 0 at.0 ∙ ap (λ x. x ∷ drop (a + 1) s) (sym (at.1 0))
 
-  first : (v : Plain) (t : List ℕ) → drop a s ≡ plain_text v ++ t → get_or s a 0 ≡ letter v
+  apart : (v : Plain) (t : List ℕ) → drop a s ≡ plain_text v ++ t → c ∷ drop (a + 1) s ≡ letter v ∷ (body v ++ t)
+  apart v t e = sym opens ∙ (e ∙ ap (λ l. l ++ t) (lettered v))
+
+  first : (v : Plain) (t : List ℕ) → drop a s ≡ plain_text v ++ t → c ≡ letter v
   first v t e = ap (λ l. get_or l 0 0) (apart v t e)
 
   rest : (v : Plain) (t : List ℕ) → drop a s ≡ plain_text v ++ t → drop (a + 1) s ≡ body v ++ t
   rest v t e = ap (λ l. drop 1 l) (apart v t e)
 
   -- a value that stands at this letter is what the letter says
-  said : (c : ℕ) → get_or s a 0 ≡ c → (v : Plain) (t : List ℕ) → drop a s ≡ plain_text v ++ t → Of c v
-  said c h v t e = subst (λ c. Of c v) (sym (first v t e) ∙ h) (says v)
+  said : (d : ℕ) → c ≡ d → (v : Plain) (t : List ℕ) → drop a s ≡ plain_text v ++ t → Of d v
+  said d h v t e = subst (λ b. Of b v) (sym (first v t e) ∙ h) (says v)
 
   -- The values of one letter: each is made of a thing that stands behind the letter, in the layout B.
   module _ {X : Type 0} (B : Layout X) (make : X → Plain) (M : Makes B make)
@@ -161,16 +120,16 @@ module _ (s : List ℕ) (a : ℕ) (inside : a < length s) where
     back : (x : X) (t : List ℕ) → drop a s ≡ plain_text (make x) ++ t → drop (a + 1) s ≡ B.text x ++ t
     back x t e = rest (make x) t e ∙ ap (λ l. l ++ t) (M.same x)
 
-    behind-letter : (x : X) → get_or s a 0 ≡ letter (make x) → (n : ℕ) → Took B s (a + 1) x n → Took plains s a (make x) n
+    behind-letter : (x : X) → c ≡ letter (make x) → (n : ℕ) → Took B s (a + 1) x n → Took plains s a (make x) n
     behind-letter x h n k = record {
       valid = M.valid x k.valid;
       text =
-          next-drop s a inside
-          ∙ (ap (λ c. c ∷ drop (a + 1) s) h
+          opens
+          ∙ (ap (λ b. b ∷ drop (a + 1) s) h
           ∙ (ap (λ t. letter (make x) ∷ t) (k.text ∙ ap (λ l. l ++ drop n s) (sym (M.same x)))
           ∙ ap (λ l. l ++ drop n s) (sym (lettered (make x)))));
       rest = M.more x (drop n s) k.rest;
-      within = λ i. k.within (omega arith);
+      within = λ i. k.within (omega (arith, at.0));
       only = λ v t ok m e. alone v t (made v t e) ok m e;
     }
       where
@@ -193,41 +152,48 @@ module _ (s : List ℕ) (a : ℕ) (inside : a < length s) where
   nothing : Took (fixed []) s (a + 1) tt (a + 1)
   nothing = record { valid = tt; text = refl; rest = tt; within = λ i. i; only = λ y t ok m e. (refl, sym e) }
 
-  pub is_null : get_or s a 0 ≡ byte "n" → Took plains s a null (a + 1)
-  unfolding letter body
-  is_null h =
-      behind-letter (fixed []) (λ u. null) (bare-made null refl tt (λ t. tt)) (λ v t e. (tt, said (byte "n") h v t e)) tt h (a + 1) nothing
+  -- a letter that nothing follows
+  bare : (v : Plain) (g : Given) → g ≡ given_of (plain v) → body v ≡ [] → plains.Valid v → ((t : List ℕ) → MorePlain v t)
+      → ((w : Plain) (t : List ℕ) → drop a s ≡ plain_text w ++ t → w ≡ v) → c ≡ letter v → GivenTook plains plain s a g (a + 1)
+  bare v g e none ok m only h =
+      record {
+        value = v;
+        took = behind-letter (fixed []) (λ u. v) (bare-made v none ok m) (λ w t f. (tt, only w t f)) tt h (a + 1) nothing;
+        given = e;
+      }
 
-  pub is_true : get_or s a 0 ≡ byte "t" → Took plains s a (bool true) (a + 1)
-  unfolding letter body
-  is_true h =
-      behind-letter (fixed []) (λ u. bool true) (bare-made (bool true) refl tt (λ t. tt)) (λ v t e. (tt, said (byte "t") h v t e)) tt h (a + 1) nothing
+  pub is_null : c ≡ byte "n" → GivenTook plains plain s a G.Null (a + 1)
+  unfolding letter body given_of
+  is_null h = bare null G.Null refl refl tt (λ t. tt) (said (byte "n") h) h
 
-  pub is_false : get_or s a 0 ≡ byte "f" → Took plains s a (bool false) (a + 1)
-  unfolding letter body
-  is_false h =
-      behind-letter (fixed []) (λ u. bool false) (bare-made (bool false) refl tt (λ t. tt)) (λ v t e. (tt, said (byte "f") h v t e)) tt h (a + 1) nothing
+  pub is_true : c ≡ byte "t" → GivenTook plains plain s a G.True (a + 1)
+  unfolding letter body given_of
+  is_true h = bare (bool true) G.True refl refl tt (λ t. tt) (said (byte "t") h) h
 
-  pub is_integer : get_or s a 0 ≡ byte "i" → (n : ℤ) (o : ℕ) → Took integers s (a + 1) n o → Took plains s a (integer n) o
+  pub is_false : c ≡ byte "f" → GivenTook plains plain s a G.False (a + 1)
+  unfolding letter body given_of
+  is_false h = bare (bool false) G.False refl refl tt (λ t. tt) (said (byte "f") h) h
+
+  pub is_integer : c ≡ byte "i" → (n : ℤ) (o : ℕ) → Took integers s (a + 1) n o → Took plains s a (integer n) o
   unfolding letter body
   is_integer h n =
       behind-letter integers integer integer_made (said (byte "i") h) n h
 
-  pub no_integer : get_or s a 0 ≡ byte "i" → Never integers s (a + 1) → Never plains s a
+  pub no_integer : c ≡ byte "i" → Never integers s (a + 1) → Never plains s a
   unfolding letter body
   no_integer h = none_behind integers integer integer_made (said (byte "i") h)
 
-  pub is_string : get_or s a 0 ≡ byte "s" → (b : List ℕ) (o : ℕ) → Took strings s (a + 1) b o → Took plains s a (string b) o
+  pub is_string : c ≡ byte "s" → (b : List ℕ) (o : ℕ) → Took strings s (a + 1) b o → Took plains s a (string b) o
   unfolding letter body
   is_string h b =
       behind-letter strings string string_made (said (byte "s") h) b h
 
-  pub no_string : get_or s a 0 ≡ byte "s" → Never strings s (a + 1) → Never plains s a
+  pub no_string : c ≡ byte "s" → Never strings s (a + 1) → Never plains s a
   unfolding letter body
   no_string h = none_behind strings string string_made (said (byte "s") h)
 
-  pub no_letter : (get_or s a 0 ≡ byte "n" → ⊥) → (get_or s a 0 ≡ byte "t" → ⊥) → (get_or s a 0 ≡ byte "f" → ⊥) → (get_or s a 0 ≡ byte "i" → ⊥)
-      → (get_or s a 0 ≡ byte "s" → ⊥) → Never plains s a
+  pub no_letter : (c ≡ byte "n" → ⊥) → (c ≡ byte "t" → ⊥) → (c ≡ byte "f" → ⊥) → (c ≡ byte "i" → ⊥)
+      → (c ≡ byte "s" → ⊥) → Never plains s a
   unfolding letter body
   no_letter n t f i b = record { not = none }
     where
@@ -239,19 +205,12 @@ module _ (s : List ℕ) (a : ℕ) (inside : a < length s) where
       none (string c) u ok m e = b (first (string c) u e)
 
   -- a fixed letter at a
-  at-letter : (c : ℕ) (t : List ℕ) → drop a s ≡ c ∷ t → (get_or s a 0 ≡ c) × (t ≡ drop (a + 1) s)
-  at-letter c t e = let f = sym (next-drop s a inside) ∙ e in (ap (λ l. get_or l 0 0) f, sym (ap (λ l. drop 1 l) f))
+  at-letter : (d : ℕ) (t : List ℕ) → drop a s ≡ d ∷ t → (c ≡ d) × (t ≡ drop (a + 1) s)
+  at-letter d t e = let f = sym opens ∙ e in (ap (λ l. get_or l 0 0) f, sym (ap (λ l. drop 1 l) f))
 
-  pub is-map : get_or s a 0 ≡ byte "{" → Took assigned s a empty_map (a + 1)
-  unfolding assigned_text
-  is-map h =
-      record {
-        valid = tt;
-        text = next-drop s a inside ∙ ap (λ c. c ∷ drop (a + 1) s) h;
-        rest = tt;
-        within = λ i. omega arith;
-        only = alone;
-      }
+  pub is-map : c ≡ byte "{" → GivenTook assigned (λ v. v) s a G.Map (a + 1)
+  unfolding assigned_text given_of
+  is-map h = record { value = empty_map; took = took; given = refl }
     where
       alone : (v : Assigned) (t : List ℕ) → assigned.Valid v → MoreAssigned v t → drop a s ≡ assigned_text v ++ t → (v ≡ empty_map)
           × (t ≡ drop (a + 1) s)
@@ -259,16 +218,18 @@ module _ (s : List ℕ) (a : ℕ) (inside : a < length s) where
       alone empty_map t ok m e = (refl, (at-letter (byte "{") t e).1)
       alone empty_list t ok m e = absurd (omega (arith, (at-letter (byte "[") t e).0))
 
-  pub is_list : get_or s a 0 ≡ byte "[" → Took assigned s a empty_list (a + 1)
-  unfolding assigned_text
-  is_list h =
-      record {
+      took : Took assigned s a empty_map (a + 1)
+      took = record {
         valid = tt;
-        text = next-drop s a inside ∙ ap (λ c. c ∷ drop (a + 1) s) h;
+        text = opens ∙ ap (λ b. b ∷ drop (a + 1) s) h;
         rest = tt;
-        within = λ i. omega arith;
+        within = λ i. omega (arith, at.0);
         only = alone;
       }
+
+  pub is_list : c ≡ byte "[" → GivenTook assigned (λ v. v) s a G.List (a + 1)
+  unfolding assigned_text given_of
+  is_list h = record { value = empty_list; took = took; given = refl }
     where
       alone : (v : Assigned) (t : List ℕ) → assigned.Valid v → MoreAssigned v t → drop a s ≡ assigned_text v ++ t → (v ≡ empty_list)
           × (t ≡ drop (a + 1) s)
@@ -276,7 +237,16 @@ module _ (s : List ℕ) (a : ℕ) (inside : a < length s) where
       alone empty_map t ok m e = absurd (omega (arith, (at-letter (byte "{") t e).0))
       alone empty_list t ok m e = (refl, (at-letter (byte "[") t e).1)
 
-  module _ (x : get_or s a 0 ≡ byte "{" → ⊥) (y : get_or s a 0 ≡ byte "[" → ⊥) where
+      took : Took assigned s a empty_list (a + 1)
+      took = record {
+        valid = tt;
+        text = opens ∙ ap (λ b. b ∷ drop (a + 1) s) h;
+        rest = tt;
+        within = λ i. omega (arith, at.0);
+        only = alone;
+      }
+
+  module _ (x : c ≡ byte "{" → ⊥) (y : c ≡ byte "[" → ⊥) where
     is_plain : (v : Plain) (n : ℕ) → Took plains s a v n → Took assigned s a (plain v) n
     unfolding assigned_text
     is_plain v n k = record { valid = k.valid; text = k.text; rest = k.rest; within = k.within; only = alone }
@@ -296,14 +266,14 @@ module _ (s : List ℕ) (a : ℕ) (inside : a < length s) where
         none empty_map t ok m e = x (at-letter (byte "{") t e).0
         none empty_list t ok m e = y (at-letter (byte "[") t e).0
 
-    pub plain_given_lem : (r : GivenRead) → ReadsPlain s a r → ReadsAssigned s a r
-    plain_given_lem r = renamed plains plain assigned (λ v. v) s a a r plain (λ v. refl) is_plain no_plain
+    pub plain_given_lem : (r : Option (Given × ℕ)) → ReadsPlain s a r → ReadsAssigned s a r
+    plain_given_lem = renamed plains plain assigned (λ v. v) s a a plain (λ v. refl) is_plain no_plain
 
-  pub integer_given : get_or s a 0 ≡ byte "i" → (r : GivenRead) → ReadsNumberValue s (a + 1) r → ReadsPlain s a r
-  integer_given h r = renamed integers (λ z. plain (integer z)) plains plain s (a + 1) a r integer (λ z. refl) (is_integer h) (no_integer h)
+  pub integer_given : c ≡ byte "i" → (r : Option (Given × ℕ)) → ReadsNumberValue s (a + 1) r → ReadsPlain s a r
+  integer_given h = renamed integers (λ z. plain (integer z)) plains plain s (a + 1) a integer (λ z. refl) (is_integer h) (no_integer h)
 
-  pub string_given : get_or s a 0 ≡ byte "s" → (r : GivenRead) → ReadsBytesValue s (a + 1) r → ReadsPlain s a r
-  string_given h r = renamed strings (λ b. plain (string b)) plains plain s (a + 1) a r string (λ b. refl) (is_string h) (no_string h)
+  pub string_given : c ≡ byte "s" → (r : Option (Given × ℕ)) → ReadsBytesValue s (a + 1) r → ReadsPlain s a r
+  string_given h = renamed strings (λ b. plain (string b)) plains plain s (a + 1) a string (λ b. refl) (is_string h) (no_string h)
 
 pub no_assigned_end : (s : List ℕ) (a : ℕ) → length s ≤ a → Never assigned s a
 unfolding assigned_text

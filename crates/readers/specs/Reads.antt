@@ -1,23 +1,18 @@
 -- Document 01, "Messages": what each reader takes. A layout says which things are valid, their texts, and what may follow; a reader answers
 -- the thing whose text stands at a place, or that none does.
--- Assumes nothing: these are definitions, and two laws of `either`.
-use Rattle.std.specs.Prelude.{ℕ, ◌≤◌, ◌≡◌, Bool, true, false, List, ◌++◌, ℤ, pos, negsuc}
-use Rattle.std.proofs.Common.{sym, true≢false}
+-- Assumes nothing: these are definitions.
+use Rattle.std.specs.Prelude.{ℕ, ◌≤◌, List, ◌++◌, ℤ, pos, negsuc, Option, None, Some}
 use Rattle.meaning.specs.Places.{Plain, null, bool, integer, string}
 use Rattle.meaning.specs.Ways.{Assigned, plain, empty_map, empty_list}
 use Rattle.meaning.specs.Valid.{ValidId, ValidCounters, ValidKey, ValidString, ValidPlain, ValidAssigned}
 use Rattle.meaning.specs.Ascii.{ascii}
 use Rattle.meaning.specs.Text.{decimal, integer_text, id_text, counters_text, hex, plain_text, assigned_text}
 use Rattle.theorems.specs.Decimal.{Stops}
-use Rattle.decimal.specs.Take.{Layout, Took, Never, fixed}
+use Rattle.meaning.specs.declared.Counters.{Counters}
+use Rattle.decimal.specs.Take.{Layout, Took, Never, Reads, fixed}
 use Rattle.decimal.specs.Numbers.{NoDigit}
-use Rattle.readers.specs.declared.Past.{Past}
-use Rattle.readers.specs.declared.Past.TheVariants as P
-use Rattle.readers.specs.declared.IdRead.{IdRead}
-use Rattle.readers.specs.declared.IdRead.TheVariants as I
-use Rattle.readers.specs.declared.CountersRead.{CountersRead}
-use Rattle.readers.specs.declared.IntegerRead.{IntegerRead}
-use Rattle.readers.specs.declared.IntegerRead.TheVariants as Z
+use Rattle.readers.specs.declared.Integer.{Integer}
+use Rattle.readers.specs.declared.Integer.TheVariants as Z
 
 abbrev pub ids : Layout ℕ
 ids = record { Valid = ValidId; text = id_text; More = λ i. NoDigit }
@@ -58,33 +53,26 @@ assigned = record { Valid = ValidAssigned; text = assigned_text; More = MoreAssi
 
 -- What the readers answer.
 
-abbrev pub ReadsText : List ℕ → List ℕ → ℕ → Past → Type 0
-ReadsText p s a (P.At n) = Took (fixed p) s a tt n
-ReadsText p s a P.Bad = Never (fixed p) s a
+-- the place behind a fixed text
+abbrev pub ReadsText : List ℕ → List ℕ → ℕ → Option ℕ → Type 0
+ReadsText p s a (Some n) = Took (fixed p) s a tt n
+ReadsText p s a None = Never (fixed p) s a
 
-abbrev pub ReadsId : List ℕ → ℕ → IdRead → Type 0
-ReadsId s a (I.Found i n) = Took ids s a i n
-ReadsId s a I.Bad = Never ids s a
+abbrev pub ReadsId : List ℕ → ℕ → Option (ℕ × ℕ) → Type 0
+ReadsId = Reads ids
 
--- one of two things, by a test
-abbrev pub either : Bool → Type 0 → Type 0 → Type 0
-either true A B = A
-either false A B = B
+-- what the code holds of a thing, and the place behind it
+abbrev pub ReadsAs : {X Y : Type 0} → (Y → X) → Layout X → List ℕ → ℕ → Option (Y × ℕ) → Type 0
+ReadsAs says L s a (Some (y, n)) = Took L s a (says y) n
+ReadsAs says L s a None = Never L s a
 
-module _ (A B : Type 0) where
-  pub yes : (b : Bool) → b ≡ true → either b A B → A
-  yes true e x = x
-  yes false e x = absurd (true≢false (sym e))
-
-  pub no : (b : Bool) → b ≡ false → either b A B → B
-  no true e x = absurd (true≢false e)
-  no false e x = x
-
-abbrev pub ReadsCounters : List ℕ → ℕ → CountersRead → Type 0
-ReadsCounters s a r = either r.ok (Took counters s a r.counters.at r.next) (Never counters s a)
+abbrev pub ReadsCounters : List ℕ → ℕ → Option (Counters × ℕ) → Type 0
+ReadsCounters = ReadsAs (λ c. c.at) counters
 
 -- an integer from 0 on, or -(m + 1)
-abbrev pub ReadsInteger : List ℕ → ℕ → IntegerRead → Type 0
-ReadsInteger s a (Z.NonNeg n m) = Took integers s a (pos n) m
-ReadsInteger s a (Z.Neg n m) = Took integers s a (negsuc n) m
-ReadsInteger s a Z.Bad = Never integers s a
+abbrev pub integer_of : Integer → ℤ
+integer_of (Z.NonNeg n) = pos n
+integer_of (Z.Neg n) = negsuc n
+
+abbrev pub ReadsInteger : List ℕ → ℕ → Option (Integer × ℕ) → Type 0
+ReadsInteger = ReadsAs integer_of integers

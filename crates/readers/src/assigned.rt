@@ -1,103 +1,50 @@
 // What is assigned: plain values, empty maps and lists.
-ghost use Rattle.std.specs.Prelude.{◌≡◌, false};
-ghost use Rattle.decimal.specs.Powers.{powers_of_ten};
-ghost use Rattle.readers.specs.Given.{ReadsPlain, ReadsAssigned, ReadsNumberValue, ReadsBytesValue, Bare};
+ghost use Rattle.readers.specs.Given.{ReadsPlain, ReadsAssigned, ReadsNumberValue, ReadsBytesValue};
 
 use crate::hex::take_string;
-use crate::{Given, GivenRead, IntegerRead, take_integer};
-
-// A value without bytes of its own.
-#[tactic(auto, unfolding(crate::specs::Words::words_of, crate::specs::Words::pack))]
-fn a_value(given: Given, next: usize) -> GivenRead
-    ensures { Bare given next result }
-{
-    GivenRead {
-        ok: true,
-        given,
-        words: [0u64; 4],
-        next,
-    }
-}
-
-fn no_value() -> GivenRead
-    ensures { result.ok ≡ false }
-{
-    GivenRead {
-        ok: false,
-        given: Given::Null,
-        words: [0u64; 4],
-        next: 0,
-    }
-}
+use crate::{Given, take_integer};
 
 // The integer behind `i`.
-fn take_number(s: &[u8], a: usize, powers: &[u64; 20]) -> GivenRead
-    requires { powers.now ≡ powers_of_ten }
+#[tactic(auto, unfolding(crate::specs::Given::given_of))]
+fn take_number(s: &[u8], a: usize) -> Option<(Given, usize)>
     ensures { ReadsNumberValue s.now a result }
 {
-    match take_integer(s, a, powers) {
-        IntegerRead::NonNeg { value, next } => a_value(Given::NonNeg(value), next),
-        IntegerRead::Neg { value, next } => a_value(Given::Neg(value), next),
-        IntegerRead::Bad => no_value(),
-    }
+    let (n, next) = take_integer(s, a)?;
+    Some((Given::from(n), next))
 }
 
 // The string behind `s`.
-fn take_bytes(s: &[u8], a: usize) -> GivenRead
+#[tactic(auto, unfolding(crate::specs::Given::given_of))]
+fn take_bytes(s: &[u8], a: usize) -> Option<(Given, usize)>
     ensures { ReadsBytesValue s.now a result }
 {
-    let r = take_string(s, a);
-    let words = r.words;
-    GivenRead {
-        ok: r.ok,
-        given: Given::String(r.len),
-        words,
-        next: r.next,
-    }
+    let (bytes, next) = take_string(s, a)?;
+    Some((Given::String(bytes), next))
 }
 
 // A plain value: n, t, f, i and a number, s and hex.
-pub fn take_plain(s: &[u8], a: usize, powers: &[u64; 20]) -> GivenRead
-    requires { powers.now ≡ powers_of_ten }
+pub fn take_plain(s: &[u8], a: usize) -> Option<(Given, usize)>
     ensures { ReadsPlain s.now a result }
 {
-    if s.len() <= a {
-        return no_value();
-    }
-    let b = s[a];
+    let letter = *s.get(a)?;
     let n = a + 1;
-    if b == b'n' {
-        return a_value(Given::Null, n);
+    match letter {
+        b'n' => Some((Given::Null, n)),
+        b't' => Some((Given::True, n)),
+        b'f' => Some((Given::False, n)),
+        b'i' => take_number(s, n),
+        b's' => take_bytes(s, n),
+        _ => None,
     }
-    if b == b't' {
-        return a_value(Given::True, n);
-    }
-    if b == b'f' {
-        return a_value(Given::False, n);
-    }
-    if b == b'i' {
-        return take_number(s, n, powers);
-    }
-    if b == b's' {
-        return take_bytes(s, n);
-    }
-    no_value()
 }
 
 // What is assigned: a plain value, `{` or `[`.
-pub fn take_assigned(s: &[u8], a: usize, powers: &[u64; 20]) -> GivenRead
-    requires { powers.now ≡ powers_of_ten }
+pub fn take_assigned(s: &[u8], a: usize) -> Option<(Given, usize)>
     ensures { ReadsAssigned s.now a result }
 {
-    if s.len() <= a {
-        return no_value();
+    match *s.get(a)? {
+        b'{' => Some((Given::Map, a + 1)),
+        b'[' => Some((Given::List, a + 1)),
+        _ => take_plain(s, a),
     }
-    let b = s[a];
-    if b == b'{' {
-        return a_value(Given::Map, a + 1);
-    }
-    if b == b'[' {
-        return a_value(Given::List, a + 1);
-    }
-    take_plain(s, a, powers)
 }

@@ -6,21 +6,18 @@ const STDOUT_FILENO: i32 = 1;
 
 // One reading.
 fn taken(s: &[u8]) -> bool {
-    let r = message::take_message(s);
-    r.ok
+    message::take_message(s).is_some()
 }
 
 fn main() {
     let mut buffer = [0u8; 1024];
     let n = io::read_full(0, &mut buffer);
     let s = &buffer[..n];
-    let mut turns: u64 = 1000000;
-    while 0 < turns {
+    for _ in 0..1000000 {
         if !taken(s) {
             io::write_all(STDOUT_FILENO, b"no message\n");
             return;
         }
-        turns = turns - 1;
     }
     io::write_all(STDOUT_FILENO, b"read\n");
 }

@@ -3,13 +3,14 @@
 use Prim.Native.Nat.{ℕ}
 use mathlib.Core.Path.{refl, sym, subst}
 use mathlib.Core.List.{List, [], ◌∷◌, ◌++◌, append_assoc}
+use Rattle.std.specs.Prelude.{Ok, Err}
 use Rattle.meaning.specs.Places.{Place}
 use Rattle.meaning.specs.Members.{All}
 use Rattle.meaning.specs.Read.{Sought, Finding}
 use Rattle.meaning.specs.Read.{at_place, answer_read}
 use Rattle.meaning.specs.Sheet.{Row, row_of, rows}
-use Rattle.meaning.specs.declared.Reading.{Reading}
-use Rattle.meaning.specs.declared.Reading.TheVariants.{NotThere}
+use Rattle.meaning.specs.Answers.{Reading}
+use Rattle.meaning.specs.declared.ReadError.TheVariants.{NotThere}
 use Rattle.tables.specs.Seek.{Passes}
 use Rattle.tables.specs.Holding.{Holds, four}
 use Rattle.tables.specs.Parts.{at-behind, all_right}
@@ -17,30 +18,30 @@ use Rattle.tables.specs.Stands.{passes}
 use Rattle.tables.specs.Once.{ValidValues}
 use Rattle.tables.specs.declared.Position.{Position}
 use Rattle.finder.specs.Follows.{StandsHere}
-use Rattle.finder.specs.declared.Followed.TheVariants as F
+use Rattle.finder.specs.declared.Absence.{Absence}
+use Rattle.finder.specs.declared.Absence.TheVariants as F
 use Rattle.listings.specs.Lists.{Answers, Under, Owns, Lists, ListsKeys, ListsValues, ListsElement}
 use Rattle.reads.specs.Gives.{Gives, HeldRows, HeldValues, GivesKeys, GivesValues, GivesElement}
 
 -- nothing is there
-module _ (Held : List Row → Type 0) (n : ℕ) (find : Place → Finding) (before : List ℕ) where
-  pub gives_missing : Gives Held n find F.Missing before NotThere before
-  unfolding at_place answer_read
-  gives_missing = record {
-    gives = λ rs s H e. subst (λ s. Answers (at_place find s) before NotThere before) (sym e) (record { answers = refl; writes = refl });
-    stays = λ x. refl;
-  }
-
-  pub gives_unmarked : Gives Held n find F.WithoutMarks before NotThere before
-  unfolding at_place answer_read
-  gives_unmarked = record {
-    gives = λ rs s H e. subst (λ s. Answers (at_place find s) before NotThere before) (sym e) (record { answers = refl; writes = refl });
-    stays = λ x. refl;
-  }
+pub gives_absent : (Held : List Row → Type 0) (n : ℕ) (find : Place → Finding) (before : List ℕ) (a : Absence)
+    → Gives Held n find (Err a) before (Err NotThere) before
+unfolding at_place answer_read
+gives_absent Held n find before F.Missing = record {
+  gives = λ rs s H e.
+      subst (λ s. Answers (at_place find s) before (Err NotThere) before) (sym e) (record { answers = refl; writes = refl });
+  stays = λ x. refl;
+}
+gives_absent Held n find before F.WithoutMarks = record {
+  gives = λ rs s H e.
+      subst (λ s. Answers (at_place find s) before (Err NotThere) before) (sym e) (record { answers = refl; writes = refl });
+  stays = λ x. refl;
+}
 
 -- a place is there, and stands as its listing wants it
 standing_gives : (Held : List Row → Type 0) (n : ℕ) (find : Place → Finding) (at : Position) (Stands : Place → Type 0) (before : List ℕ)
     (r : Reading) (after : List ℕ) → ((rs : List Row) (s : Sought) → Held rs → (L : StandsHere rs n at s) → Stands L.place)
-    → Lists Stands find before r after → Gives Held n find (F.Standing at) before r after
+    → Lists Stands find before r after → Gives Held n find (Ok at) before r after
 unfolding at_place
 standing_gives Held n find at Stands before r after stand listing = record {
   gives = λ rs s H L. subst (λ s. Answers (at_place find s) before r after) (sym L.is) (listing.lists L.place (stand rs s H L));
@@ -68,16 +69,16 @@ module _ (h k : List ℕ) (count : ℕ) (at next : Position) (past : Passes h at
       }
 
   module _ (before : List ℕ) (r : Reading) (after : List ℕ) where
-    pub gives_keys : ListsKeys h k count next.row n before r after → GivesKeys h k count (F.Standing at) n before r after
+    pub gives_keys : ListsKeys h k count next.row n before r after → GivesKeys h k count (Ok at) n before r after
     gives_keys = standing_gives _ n _ at (Under h k count next.row n) before r after under
 
     pub gives_element : (index : ℕ) → ListsElement h k count next.row n index before r after
-        → GivesElement h k count (F.Standing at) n index before r after
+        → GivesElement h k count (Ok at) n index before r after
     gives_element index = standing_gives _ n _ at (Under h k count next.row n) before r after under
 
 -- its own row has the values
 pub gives_values : (h v : List ℕ) (at : Position) (before : List ℕ) (r : Reading) (after : List ℕ) → ListsValues h v at before r after
-    → GivesValues h v (F.Standing at) before r after
+    → GivesValues h v (Ok at) before r after
 gives_values h v at before r after listing n = standing_gives _ n _ at (Owns h v at) before r after own listing
   where
     own : (rs : List Row) (s : Sought) → HeldValues h v rs → (L : StandsHere rs n at s) → Owns h v at L.place

@@ -7,25 +7,20 @@ use Rattle.meaning.specs.Members.{All}
 use Rattle.meaning.specs.Read.{PlaceWay, ValidPlaceWay, Sought, seek, Finding, listed, keys_text, values_text}
 use Rattle.meaning.specs.Read.{present_ids, nth_text, at_place}
 use Rattle.meaning.specs.Sheet.{Row, rows_of}
-use Rattle.meaning.specs.Answers.{Refusal, reading_answer}
-use Rattle.meaning.specs.declared.Reading.{Reading}
+use Rattle.meaning.specs.Answers.{Refusal, Reading, reading_answer}
 use Rattle.message.specs.Means.{MeansPlace}
 use Rattle.message.specs.declared.Way.{Way}
 use Rattle.tables.specs.Holding.{Holds, four}
 use Rattle.tables.specs.Once.{ValidValues}
 use Rattle.tables.specs.declared.Counts.{Counts}
-use Rattle.finder.specs.Follows.{Leads}
-use Rattle.finder.specs.declared.Followed.{Followed}
+use Rattle.finder.specs.Follows.{Followed, Leads}
 use Rattle.listings.specs.Lists.{Answers}
 
--- the way of n keys, with these words, leads where document 01 says
-abbrev pub way_in : List ℕ → ℕ → Way
-way_in words n = record { keys = words; n = n }
-
-abbrev pub Reaches : List ℕ → List ℕ → ℕ → List ℕ → ℕ → Followed → Type 0
-Reaches h k rows words n r =
+-- a way leads where document 01 says
+abbrev pub Reaches : List ℕ → List ℕ → ℕ → Way → Followed → Type 0
+Reaches h k rows way r =
     (m v : List ℕ) (c : Counts) (D : Document) (w : PlaceWay) → Holds (four h k m v) c (rows_of D) → rows ≡ c.rows
-    → MeansPlace (way_in words n) w → ValidPlaceWay w → Leads (rows_of D) n r (seek w D)
+    → MeansPlace way w → ValidPlaceWay w → Leads (rows_of D) way.n r (seek w D)
 
 -- what `find` says of the place that was found, of depth n, is given into the buffer; 14 if there is none
 pub record Gives (Held : List Row → Type 0) (n : ℕ) (find : Place → Finding) (found : Followed) (before : List ℕ) (answer : Reading)

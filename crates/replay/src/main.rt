@@ -5,10 +5,8 @@
 ghost use Rattle.std.specs.Prelude.{◌≤◌, ◌<◌, ◌≡◌, true};
 ghost use Rattle.stream.specs.Pieces.{CutInside};
 
-use keeping::State;
+use keeping::Memory;
 use stream::Cut;
-use tables::{HEADS, KEYS, MARKS, VALUES};
-use waiting::WAITING;
 
 // Where the script is read and where the answers are written.
 const STDIN_FILENO: i32 = 0;
@@ -60,13 +58,7 @@ fn hold_call(buf: &mut [u8], c: Cut, ended: bool) -> Input
 fn goes_on(at: usize, next: usize, to: usize) -> bool
     ensures { result ≡ true → (at < next) × (next ≤ to) }
 {
-    if next <= at {
-        return false;
-    }
-    if to < next {
-        return false;
-    }
-    true
+    at < next && next <= to
 }
 
 // At the end of a script no byte is left.
@@ -77,61 +69,35 @@ fn say_end(at: usize, to: usize) {
 }
 
 // Answers the calls of a script, from an empty terminal on. A proved loop has to end, and nothing says that a script does, so the turns are
-// counted down from a number that no run uses up.
-fn play(
-    heads: &mut [u64; HEADS],
-    keys: &mut [u64; KEYS],
-    marks: &mut [u64; MARKS],
-    values: &mut [u64; VALUES],
-    waiting: &mut [u64; WAITING],
-    buf: &mut [u8],
-) {
-    let mut state: State = terminal::empty();
+// as many as no run uses up.
+fn play(m: &mut Memory, buf: &mut [u8]) {
     let mut cut = Cut {
         from: 0,
         to: 0,
         passing: false,
     };
     let mut ended = false;
-    let mut turns = u64::MAX;
-    while turns > 0 {
+    for _ in 0..u64::MAX {
         let r = hold_call(buf, cut, ended);
         let c = r.cut;
         ended = r.ended;
         let at = c.from;
         let to = c.to;
-        let a = replay_calls::answer(heads, keys, marks, values, waiting, state, &buf[..to], at);
-        let later = a.state;
-        state = later;
-        let next = a.next;
-        if goes_on(at, next, to) {
-            cut = Cut {
-                from: next,
-                to,
-                passing: false,
-            };
-            turns -= 1;
-        } else {
+        let next = replay_calls::answer(m, &buf[..to], at).unwrap_or(at);
+        if !goes_on(at, next, to) {
             say_end(at, to);
-            cut = c;
-            turns = 0;
+            return;
         }
+        cut = Cut {
+            from: next,
+            to,
+            passing: false,
+        };
     }
 }
 
 fn main() {
-    let mut heads = [0u64; HEADS];
-    let mut keys = [0u64; KEYS];
-    let mut marks = [0u64; MARKS];
-    let mut values = [0u64; VALUES];
-    let mut waiting = [0u64; WAITING];
+    let mut m = terminal::new();
     let mut buf = [0u8; 131072];
-    play(
-        &mut heads,
-        &mut keys,
-        &mut marks,
-        &mut values,
-        &mut waiting,
-        &mut buf,
-    );
+    play(&mut m, &mut buf);
 }

@@ -2,57 +2,28 @@
 // layout that is asked for, else 1.
 #![tactic(auto)]
 
-use replay_text::block_of;
-use script::{BlockFound, part};
+use message::{take_edit, take_element_way, take_keys_way, take_message, take_place_way};
+use replay_text::{block_of, say};
 
-// The answer to a call with this name.
-fn say(name: &[u8], ok: bool) {
-    replay_text::say(name);
-    if ok {
-        replay_text::say(b"0\n");
-        return;
+// Answers the call with this name, if it stands at a place: whether its block is in the layout. Says where the next call stands.
+fn ask<F: FnOnce(&[u8]) -> bool>(text: &[u8], a: usize, name: &[u8], in_layout: F) -> Option<usize>
+    requires { F.IsAlwaysCallable in_layout }
+{
+    let block = block_of(text, a, name)?;
+    say(name);
+    if in_layout(block.bytes(text)) {
+        say(b"0\n");
+    } else {
+        say(b"1\n");
     }
-    replay_text::say(b"1\n");
+    Some(block.next)
 }
 
-// Answers the calls that ask for the way of a read.
-fn answer_way(text: &[u8], a: usize) -> usize {
-    if let BlockFound::Bytes { from, to, next } = block_of(text, a, b"isvaluesway ") {
-        say(
-            b"isvaluesway ",
-            message::take_place_way(part(text, from, to)).ok,
-        );
-        return next;
-    }
-    if let BlockFound::Bytes { from, to, next } = block_of(text, a, b"iskeysway ") {
-        say(
-            b"iskeysway ",
-            message::take_keys_way(part(text, from, to)).ok,
-        );
-        return next;
-    }
-    if let BlockFound::Bytes { from, to, next } = block_of(text, a, b"iselementway ") {
-        say(
-            b"iselementway ",
-            message::take_element_way(part(text, from, to)).ok,
-        );
-        return next;
-    }
-    a
-}
-
-// Answers the layout call at a place of a script, and says where the next call stands; the same place if there is no such call.
-pub fn answer(text: &[u8], a: usize) -> usize {
-    if let BlockFound::Bytes { from, to, next } = block_of(text, a, b"ismessage ") {
-        say(
-            b"ismessage ",
-            message::take_message(part(text, from, to)).ok,
-        );
-        return next;
-    }
-    if let BlockFound::Bytes { from, to, next } = block_of(text, a, b"islines ") {
-        say(b"islines ", message::take_edit(part(text, from, to)).ok);
-        return next;
-    }
-    answer_way(text, a)
+// Answers the layout call at a place of a script, and says where the next call stands, if there is such a call.
+pub fn answer(text: &[u8], a: usize) -> Option<usize> {
+    ask(text, a, b"ismessage ", |b| take_message(b).is_some())
+        .or_else(|| ask(text, a, b"islines ", |b| take_edit(b).is_some()))
+        .or_else(|| ask(text, a, b"isvaluesway ", |b| take_place_way(b).is_some()))
+        .or_else(|| ask(text, a, b"iskeysway ", |b| take_keys_way(b).is_some()))
+        .or_else(|| ask(text, a, b"iselementway ", |b| take_element_way(b).is_some()))
 }

@@ -1,7 +1,7 @@
 // What the parts of the program `replay` share (docs/REPLAY.md): a call whose first line has one number, and the lines of answers.
 #![tactic(auto)]
 
-use script::{Asked, BlockFound};
+use script::{BlockFound, block, number};
 
 // Where the answers are written.
 const STDOUT_FILENO: i32 = 1;
@@ -11,62 +11,41 @@ pub const LONGEST_BUFFER: usize = 65536;
 
 pub const FILL: u8 = 165;
 
-// A call with a block and a buffer: where the block stands, the buffer's size, a number that stands between these two, and where the next
-// call begins; or the call is another one.
+// A call with a block and a buffer: the block, the buffer's size, and a number that stands between the block's and the buffer's.
 #[derive(Clone, Copy)]
-pub enum Lent {
-    Call {
-        from: usize,
-        to: usize,
-        other: u64,
-        room: usize,
-        next: usize,
-    },
-    Other,
+pub struct Lent {
+    pub block: BlockFound,
+    pub other: u64,
+    pub room: usize,
 }
 
 // The block of a call with this name, whose first line has one number: that of the block's bytes.
-pub fn block_of(text: &[u8], a: usize, name: &[u8]) -> BlockFound {
-    let Asked::Number { value, next } = script::number(text, a, name, u64::MAX) else {
-        return BlockFound::Other;
-    };
-    script::block(text, next, value)
+pub fn block_of(text: &[u8], a: usize, name: &[u8]) -> Option<BlockFound> {
+    let (n, next) = number(text, a, name, u64::MAX)?;
+    block(text, next, n)
 }
 
 // A first line that goes on with the buffer's size and ends there, and the block of n bytes.
-fn with_buffer(text: &[u8], a: usize, n: u64, other: u64) -> Lent {
-    let Asked::Number { value, next: end } = script::number(text, a, b" ", LONGEST_BUFFER as u64)
-    else {
-        return Lent::Other;
-    };
-    let BlockFound::Bytes { from, to, next } = script::block(text, end, n) else {
-        return Lent::Other;
-    };
-    Lent::Call {
-        from,
-        to,
+fn with_buffer(text: &[u8], a: usize, n: u64, other: u64) -> Option<Lent> {
+    let (room, end) = number(text, a, b" ", LONGEST_BUFFER as u64)?;
+    let block = block(text, end, n)?;
+    Some(Lent {
+        block,
         other,
-        room: value as usize,
-        next,
-    }
+        room: room as usize,
+    })
 }
 
 // A call with this name, whose first line has the numbers of the block's and the buffer's bytes.
-pub fn lent_of(text: &[u8], a: usize, name: &[u8]) -> Lent {
-    let Asked::Number { value, next } = script::number(text, a, name, u64::MAX) else {
-        return Lent::Other;
-    };
-    with_buffer(text, next, value, 0)
+pub fn lent_of(text: &[u8], a: usize, name: &[u8]) -> Option<Lent> {
+    let (n, next) = number(text, a, name, u64::MAX)?;
+    with_buffer(text, next, n, 0)
 }
 
 // The same with a number between the two.
-pub fn lent_with_number(text: &[u8], a: usize, name: &[u8]) -> Lent {
-    let Asked::Number { value: n, next: b } = script::number(text, a, name, u64::MAX) else {
-        return Lent::Other;
-    };
-    let Asked::Number { value: other, next } = script::number(text, b, b" ", u64::MAX) else {
-        return Lent::Other;
-    };
+pub fn lent_with_number(text: &[u8], a: usize, name: &[u8]) -> Option<Lent> {
+    let (n, b) = number(text, a, name, u64::MAX)?;
+    let (other, next) = number(text, b, b" ", u64::MAX)?;
     with_buffer(text, next, n, other)
 }
 
@@ -82,15 +61,12 @@ pub fn say_number(n: u64, behind: &[u8]) {
 
 // Whether the bytes from a place on are the fill byte still; the answer's line ends with it.
 fn say_rest(buf: &[u8], from: usize) {
-    let mut i = from;
-    while i < buf.len() {
-        if buf[i] != FILL {
-            say(b"changed\n");
-            return;
-        }
-        i += 1;
+    let rest = buf.get(from..).unwrap_or(b"");
+    if rest.iter().all(|b| *b == FILL) {
+        say(b"same\n");
+    } else {
+        say(b"changed\n");
     }
-    say(b"same\n");
 }
 
 // The answer 0 of a call with a buffer: how many operations were applied and dropped, and what was written.

@@ -2,18 +2,16 @@
 -- Assumes nothing.
 use Prim.Native.Nat.{ℕ, ◌+◌, ◌-◌, ◌≤◌, ◌<◌}
 use native.Mathlib.Omega.{arith}
-use mathlib.Core.Path.{◌≡◌, refl, sym, ap, ◌∙◌, subst}
-use mathlib.Core.Bool.{Bool, true, false, cond, ◌&&◌}
-use mathlib.Core.List.{List, [], ◌++◌, append_assoc}
-use lib.Dec.{leb}
+use mathlib.Core.Path.{◌≡◌, sym, ap, ◌∙◌, subst}
+use mathlib.Core.List.{List, ◌++◌, append_assoc}
 use lib.ListN.{length, take, drop, take-append-drop, length-append, length-drop}
 use lib.Seq.{take_at, drop_at, drop-drop, length-take-le}
-use borrow.Author.Tests.{lt-leb}
+use Rattle.std.proofs.Common.{Option, Some, None}
 use Rattle.meaning.specs.Ascii.{ascii}
 use Rattle.decimal.specs.Take.{Layout, Took, Never, fixed}
-use Rattle.decimal.specs.Numbers.{numbers}
+use Rattle.decimal.specs.Numbers.{numbers, ReadsNumber}
 use Rattle.decimal.proofs.Layouts.{no_first, no_second, both}
-use Rattle.script.specs.Calls.{asks, blocks, part_of, Found}
+use Rattle.script.specs.Calls.{asks, blocks, part_of, FindsNumber, Found}
 use Rattle.script.specs.Once.{took_past, part_is}
 
 abbrev feed : Layout (Unit {0})
@@ -26,11 +24,9 @@ module _ (most : ℕ) (text s : List ℕ) (a : ℕ) where
   no_text h = no_first (fixed text) (numbers 0 most) (λ x y t v m. tt) s a h
 
   module _ (n : ℕ) (k : Took (fixed text) s a tt n) where
-    pub no_number : Never (numbers 0 most) s n → Never (asks most text) s a
-    no_number h = no_second (fixed text) (numbers 0 most) (λ x y t v m. tt) s a tt n k h
-
-    pub a_number : (v m : ℕ) → Took (numbers 0 most) s n v m → Took (asks most text) s a (tt, v) m
-    a_number v m l = both (fixed text) (numbers 0 most) (λ x y t v m. tt) s a tt n k v m l
+    pub behind_text : (r : Option (ℕ × ℕ)) → ReadsNumber (numbers 0 most) s n r → FindsNumber most text s a r
+    behind_text (Some (v, m)) l = both (fixed text) (numbers 0 most) (λ x y t v m. tt) s a tt n k v m l
+    behind_text None h = no_second (fixed text) (numbers 0 most) (λ x y t v m. tt) s a tt n k h
 
 -- Blocks of n bytes.
 
@@ -89,21 +85,9 @@ module _ (n : ℕ) (s : List ℕ) (a : ℕ) where
             );
           }
 
-      pub a_block : Found n s a from (from + n) next
+      pub a_block : Found n s a (record { from = from; to = from + n; next = next })
       a_block =
           let i : n ≡ from + n - from = omega arith in
           let p : take n (drop from s) ≡ part_of from (from + n) s =
           ap (λ k. take k (drop from s)) i ∙ sym (part_is from (from + n) s (omega arith) (omega (arith, last))) in
           record { took = subst (λ block. Took (blocks n) s a block next) p block_took; order = omega arith; behind = last.1 }
-
--- Parts.
-
-pub part_crossed : (from to : ℕ) (s : List ℕ) → to < from → [] ≡ part_of from to s
-part_crossed from to s h = rw (lt-leb from to h)
-
-pub part_beyond : (from to : ℕ) (s : List ℕ) → length s < to → [] ≡ part_of from to s
-part_beyond from to s h = rw (lt-leb to (length s) h) (go (leb from to) (take (to - from) (drop from s)))
-  where
-    go : (b : Bool) (part : List ℕ) → [] ≡ cond (b && false) part []
-    go true part = refl
-    go false part = refl

@@ -1,15 +1,12 @@
 -- docs/REPLAY.md, "Scripts": the numbers of a call's first line, each behind the text that stands before it (the name and a space, or a
 -- space), and the block of bytes behind the line. Looser than REPLAY.md: no limit of 40 bytes for the first line.
 -- Assumes nothing.
-use Rattle.std.specs.Prelude.{ℕ, ◌+◌, ◌-◌, ◌≤◌, ◌≡◌, refl, cond, ◌&&◌, List, [], ◌++◌, leb, length, take, drop}
+use Rattle.std.specs.Prelude.{ℕ, ◌+◌, ◌-◌, ◌≤◌, ◌≡◌, refl, cond, ◌&&◌, List, [], ◌++◌, leb, length, take, drop, Option, None, Some}
 use Rattle.meaning.specs.Ascii.{ascii}
 use Rattle.meaning.specs.Text.{decimal, digits, width, width_from}
 use Rattle.decimal.specs.Take.{Layout, Took, Never, fixed, then}
 use Rattle.decimal.specs.Numbers.{numbers}
-use Rattle.script.specs.declared.Asked.{Asked}
-use Rattle.script.specs.declared.Asked.TheVariants as A
 use Rattle.script.specs.declared.BlockFound.{BlockFound}
-use Rattle.script.specs.declared.BlockFound.TheVariants as B
 
 -- a text, and a number that is at most `most`
 abbrev pub asks : ℕ → List ℕ → Layout (Unit {0} × ℕ)
@@ -33,17 +30,17 @@ abbrev pub part_of : ℕ → ℕ → List ℕ → List ℕ
 part_of from to s = cond (leb from to && leb to (length s)) (take (to - from) (drop from s)) []
 
 -- The text stands at a with a number behind it; or there is no such thing.
-abbrev pub FindsNumber : ℕ → List ℕ → List ℕ → ℕ → Asked → Type 0
-FindsNumber most text s a (A.Number v n) = Took (asks most text) s a (tt, v) n
-FindsNumber most text s a A.Other = Never (asks most text) s a
+abbrev pub FindsNumber : ℕ → List ℕ → List ℕ → ℕ → Option (ℕ × ℕ) → Type 0
+FindsNumber most text s a (Some (v, n)) = Took (asks most text) s a (tt, v) n
+FindsNumber most text s a None = Never (asks most text) s a
 
 -- Behind a first line that ends at a, its block is the part from one place up to another; one LF stands behind it, and then the next call.
-pub record Found (n : ℕ) (s : List ℕ) (a from to next : ℕ) : Type 0 where
-  pub took : Took (blocks n) s a (part_of from to s) next
-  pub order : from ≤ to
-  pub behind : next ≡ to + 1
+pub record Found (n : ℕ) (s : List ℕ) (a : ℕ) (b : BlockFound) : Type 0 where
+  pub took : Took (blocks n) s a (part_of b.from b.to s) b.next
+  pub order : b.from ≤ b.to
+  pub behind : b.next ≡ b.to + 1
 
 -- A block of n bytes stands there; or none does.
-abbrev pub FindsBlock : ℕ → List ℕ → ℕ → BlockFound → Type 0
-FindsBlock n s a (B.Bytes from to next) = Found n s a from to next
-FindsBlock n s a B.Other = Never (blocks n) s a
+abbrev pub FindsBlock : ℕ → List ℕ → ℕ → Option BlockFound → Type 0
+FindsBlock n s a (Some b) = Found n s a b
+FindsBlock n s a None = Never (blocks n) s a

@@ -1,17 +1,14 @@
 -- The promises of `script` settle its answers: two answers that meet one are equal, `number_once` and `block_once`. (What `part` promises
 -- is an equation.)
 -- Assumes nothing.
-use Rattle.std.specs.Prelude.{ℕ, ◌+◌, ◌-◌, ◌≤◌, ◌<◌, ◌≡◌, refl, List, ◌++◌, length, take, drop}
-use Rattle.std.proofs.Common.{arith, sym, ap, ap₂, ◌∙◌, length-append, length-drop, length-take-le, le-leb}
+use Rattle.std.specs.Prelude.{ℕ, ◌+◌, ◌-◌, ◌≤◌, ◌<◌, ◌≡◌, refl, List, ◌++◌, length, take, drop, Option, None, Some}
+use Rattle.std.proofs.Common.{arith, sym, ap, ◌∙◌, length-append, length-drop, length-take-le, le-leb}
 use Rattle.meaning.specs.Ascii.{ascii}
 use Rattle.meaning.specs.Text.{decimal}
 use Rattle.theorems.specs.Decimal.{length-decimal, width_sized}
 use Rattle.decimal.specs.Take.{Layout, Took, Never}
 use Rattle.script.specs.Calls.{asks, blocks, part_of, FindsNumber, Found, FindsBlock}
-use Rattle.script.specs.declared.Asked.{Asked}
-use Rattle.script.specs.declared.Asked.TheVariants as A
 use Rattle.script.specs.declared.BlockFound.{BlockFound}
-use Rattle.script.specs.declared.BlockFound.TheVariants as B
 
 -- Layouts whose texts have a byte or more.
 
@@ -49,36 +46,37 @@ part_is from to s h l = rw (le-leb from to h, le-leb to (length s) l)
 
 -- Any two answers.
 
-pub number_once : (most : ℕ) (text s : List ℕ) (a : ℕ) (q r : Asked) → FindsNumber most text s a q → FindsNumber most text s a r → q ≡ r
-number_once most text s a (A.Number v n) (A.Number w m) k l =
+pub number_once : (most : ℕ) (text s : List ℕ) (a : ℕ) (q r : Option (ℕ × ℕ)) → FindsNumber most text s a q
+    → FindsNumber most text s a r → q ≡ r
+number_once most text s a (Some (v, n)) (Some (w, m)) k l =
     let o = took_once (asks most text) s a (tt, v) (tt, w) n m k l (ask_long most text v) (ask_long most text w) in
-    ap₂ A.Number (ap (λ p. p.1) o.0) o.1
-number_once most text s a (A.Number v n) A.Other k l = took_never (asks most text) s a (tt, v) n k l
-number_once most text s a A.Other (A.Number w m) k l = took_never (asks most text) s a (tt, w) m l k
-number_once most text s a A.Other A.Other k l = refl
+    λ i. Some (((o.0 i).1), o.1 i)
+number_once most text s a (Some (v, n)) None k l = took_never (asks most text) s a (tt, v) n k l
+number_once most text s a None (Some (w, m)) k l = took_never (asks most text) s a (tt, w) m l k
+number_once most text s a None None k l = refl
 
-pub block_once : (n : ℕ) (s : List ℕ) (a : ℕ) (q r : BlockFound) → FindsBlock n s a q → FindsBlock n s a r → q ≡ r
-block_once n s a (B.Bytes f t x) (B.Bytes g u y) k l = same
+pub block_once : (n : ℕ) (s : List ℕ) (a : ℕ) (q r : Option BlockFound) → FindsBlock n s a q → FindsBlock n s a r → q ≡ r
+block_once n s a (Some b) (Some d) k l = same
   where
-    long : {f t x : ℕ} → Found n s a f t x → t - f ≡ n
-    long {f} {t} {x} k =
-        let w = (took_past (blocks n) s a (part_of f t s) x k.took (block_long n (part_of f t s))).0 in
-        sym (length-take-le (t - f) (drop f s) (omega (arith, length-drop f s, k.behind, k.order, w)))
-        ∙ (ap length (sym (part_is f t s k.order (omega (arith, k.behind, w)))) ∙ k.took.valid)
+    long : {b : BlockFound} → Found n s a b → b.to - b.from ≡ n
+    long {b} k =
+        let w = (took_past (blocks n) s a (part_of b.from b.to s) b.next k.took (block_long n (part_of b.from b.to s))).0 in
+        sym (length-take-le (b.to - b.from) (drop b.from s) (omega (arith, length-drop b.from s, k.behind, k.order, w)))
+        ∙ (ap length (sym (part_is b.from b.to s k.order (omega (arith, k.behind, w)))) ∙ k.took.valid)
 
-    ends : x ≡ y
+    ends : b.next ≡ d.next
     ends =
-        (took_once (blocks n) s a (part_of f t s) (part_of g u s) x y k.took l.took (block_long n (part_of f t s))
-        (block_long n (part_of g u s))).1
+        (took_once (blocks n) s a (part_of b.from b.to s) (part_of d.from d.to s) b.next d.next k.took l.took
+        (block_long n (part_of b.from b.to s)) (block_long n (part_of d.from d.to s))).1
 
-    to_same : t ≡ u
+    to_same : b.to ≡ d.to
     to_same = omega (arith, ends, k.behind, l.behind)
 
-    from_same : f ≡ g
+    from_same : b.from ≡ d.from
     from_same = omega (arith, to_same, k.order, l.order, long k, long l)
 
-    same : B.Bytes f t x ≡ B.Bytes g u y
-    same = λ i. B.Bytes (from_same i) (to_same i) (ends i)
-block_once n s a (B.Bytes f t x) B.Other k l = took_never (blocks n) s a (part_of f t s) x k.took l
-block_once n s a B.Other (B.Bytes g u y) k l = took_never (blocks n) s a (part_of g u s) y l.took k
-block_once n s a B.Other B.Other k l = refl
+    same : Some b ≡ Some d
+    same = λ i. Some (record { from = from_same i; to = to_same i; next = ends i })
+block_once n s a (Some b) None k l = took_never (blocks n) s a (part_of b.from b.to s) b.next k.took l
+block_once n s a None (Some d) k l = took_never (blocks n) s a (part_of d.from d.to s) d.next l.took k
+block_once n s a None None k l = refl

@@ -6,9 +6,10 @@ use mathlib.Core.Path.{◌≡◌, refl, sym, ap, ◌∙◌, subst}
 use mathlib.Core.Bool.{Bool, true, false, not, ◌||◌, true≢false}
 use mathlib.Core.List.{List, [], ◌∷◌, ◌++◌, append_assoc}
 use lib.ListN.{get_or}
+use Rattle.std.specs.Prelude.{None, Some}
 use Rattle.meaning.specs.Ways.{head, after}
 use Rattle.meaning.specs.Sheet.{Spot, Row}
-use Rattle.rows.specs.Blocks.{passed, rest, is_id, is_greater, in_a_map, over, at, insert_rows}
+use Rattle.rows.specs.Blocks.{passed, rest, is_id, is_greater, in_a_map, over, insert_rows}
 use Rattle.rows.specs.Balanced.{passed-rest, passed-rest-behind}
 use Rattle.message.specs.Means.{prev_words}
 use Rattle.tables.specs.Finds.{want_element, want_seat, want_head, element_agrees, seat_agrees, head_agrees, element_tells}
@@ -38,7 +39,7 @@ after_first x len e q = ap (λ l. get_or l 0 0) q
 module _ (n i hi len rows : ℕ) (from : Position) (h k : List ℕ) where
   -- behind the head
   pub seat_head : (t : Position) → len ≡ 18 → FindsIn h k rows from (want_head n i) t
-      → Seats n hi len i rows from h k (record { there = true; at = t })
+      → Seats n hi len i rows from h k (Some t)
   unfolding insert_rows
   seat_head t l F m v c A B (after e) H r b w = absurd (head_third e hi (ap (λ len. hi ∷ 0 ∷ len ∷ []) (sym l) ∙ w))
   seat_head t l F m v c A B head H r b w =
@@ -47,7 +48,7 @@ module _ (n i hi len rows : ℕ) (from : Position) (h k : List ℕ) where
         before = passed (over n pass) B;
         beyond = rest (over n pass) B;
         rows = sym (passed-rest (over n pass) B);
-        at = F m v c A B pass H r b (head_agrees n i);
+        here = F m v c A B pass H r b (head_agrees n i);
         ends = none_deeper n pass B;
         stays = all_there n pass B;
         inserts = λ new. step_on_lem n pass new B;
@@ -66,7 +67,7 @@ module _ (n i hi len rows : ℕ) (from : Position) (h k : List ℕ) where
         K m v c (A ++ passed (other hi) B) (rest (other hi) B) (is_id hi)
         (subst (Holds (four h k m v) c) (passed-rest-behind A (other hi) B) H) r (at-behind t _ s).row (element_tells n hi)
 
-    pub seat_none : y ≡ false → Seats n hi len i rows from h k (record { there = false; at = t })
+    pub seat_none : y ≡ false → Seats n hi len i rows from h k None
     seat_none z m v c A B head H r b w = absurd (after-third hi len l w)
     seat_none z m v c A B (after e) H r b w =
         subst (λ e. (new : List Row) → insert_rows n (after e) i new B ≡ B) (after_first hi len e w)
@@ -74,14 +75,14 @@ module _ (n i hi len rows : ℕ) (from : Position) (h k : List ℕ) where
 
     -- behind the predecessor
     pub seat_after : (p u : Position) → y ≡ true → Passes h t p → FindsIn h k rows p (want_seat n i) u
-        → Seats n hi len i rows from h k (record { there = true; at = u })
+        → Seats n hi len i rows from h k (Some u)
     seat_after p u z P G m v c A B head H r b w = absurd (after-third hi len l w)
     seat_after p u z P G m v c A B (after e) H r b w =
-        subst (λ e. Sits n i (after e) (record { there = true; at = u }) A B) (after_first hi len e w)
+        subst (λ e. Sits n i (after e) u A B) (after_first hi len e w)
         (go (rest (other hi) B) refl (sym (told m v c A B H r b) ∙ z))
       where
         go : (X : List Row) → rest (other hi) B ≡ X → begins n (is_id hi) X ≡ true
-            → Sits n i (after hi) (record { there = true; at = u }) A B
+            → Sits n i (after hi) u A B
         go [] x q = absurd (true≢false (sym q))
         go (x ∷ X) q a =
             let W = passed (other hi) B in
@@ -101,7 +102,7 @@ module _ (n i hi len rows : ℕ) (from : Position) (h k : List ℕ) where
               before = W ++ x ∷ g X;
               beyond = rest (over n (is_greater i)) X;
               rows = e₄;
-              at = f ∙ ap behind e₃;
+              here = f ∙ ap behind e₃;
               ends = none_deeper n (is_greater i) X;
               stays = all_there n (is_greater i) X;
               inserts = λ new. insert_after_lem n i hi new B x X q a

@@ -5,65 +5,50 @@
 ghost use Rattle.seats.specs.Seats.{Seats};
 
 use readers::{CARET, ELEMENT, Key};
-use tables::{Aim, Position, Search, next_row};
+use tables::{Aim, Position, Search, Tables, find, is_at, next_row};
 
-// Where a new element comes, if its predecessor is there.
-#[derive(Clone, Copy)]
-pub struct Seat {
-    pub there: bool,
-    pub at: Position,
-}
-
-// Where the element with this id comes: behind the head or its predecessor, and on over elements with greater ids.
+// Where the element with this id comes, if its predecessor is there: behind the head or that, and on over elements with greater ids.
 pub fn find_seat(
-    heads: &[u64],
-    keys: &[u64],
+    t: &Tables,
     rows: usize,
     from: Position,
     n: u64,
-    hi: u64,
-    len: u64,
+    prev: Key,
     id: u64,
-) -> Seat
-    ensures { Seats n hi len id rows from heads.now keys.now result }
+) -> Option<Position>
+    ensures { Seats n prev.hi prev.len id rows from t.now.heads t.now.keys result }
 {
     let new = Key {
         hi: id,
         lo: 0,
         len: ELEMENT,
     };
-    if len == CARET {
+    if prev.len == CARET {
         let first = Search {
             aim: Aim::FirstSeat,
             depth: n,
             key: new,
         };
-        let at = tables::find(heads, keys, rows, from, first);
-        return Seat { there: true, at };
+        return Some(find(t, rows, from, first));
     }
     let w = Search {
         aim: Aim::Element,
         depth: n,
         key: Key {
-            hi,
+            hi: prev.hi,
             lo: 0,
             len: ELEMENT,
         },
     };
-    let t = tables::find(heads, keys, rows, from, w);
-    let row = t.row;
-    if !tables::is_at(heads, keys, rows, row, w) {
-        return Seat {
-            there: false,
-            at: t,
-        };
+    let at = find(t, rows, from, w);
+    if !is_at(t, rows, at.row, w) {
+        return None;
     }
-    let p = next_row(heads, t);
+    let next = next_row(&t.heads, at);
     let seat = Search {
         aim: Aim::Seat,
         depth: n,
         key: new,
     };
-    let at = tables::find(heads, keys, rows, p, seat);
-    Seat { there: true, at }
+    Some(find(t, rows, next, seat))
 }

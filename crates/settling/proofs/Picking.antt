@@ -2,13 +2,14 @@
 -- Assumes nothing.
 use Prim.Native.Nat.{ℕ, ◌+◌, ◌-◌, ◌<◌}
 use native.Mathlib.Omega.{arith}
-use mathlib.Core.Path.{◌≡◌, refl, sym, ap, ◌∙◌}
+use mathlib.Core.Path.{◌≡◌, refl, ap, ◌∙◌}
 use mathlib.Core.Bool.{Bool, true, false, not, false≢true, true≢false}
 use mathlib.Core.List.{List, [], ◌∷◌, ◌++◌, append_assoc}
 use mathlib.Core.Logic.{inl, inr}
 use lib.Dec.{eqb}
 use lib.ListN.{length}
 use borrow.Author.Tests.{eq-eqb, ne_eqb}
+use Rattle.std.specs.Prelude.{Option, Some, None, is_some}
 use Rattle.meaning.specs.Sets.{keep}
 use Rattle.meaning.specs.Ways.{Operation}
 use Rattle.meaning.specs.Members.{All, Has, Ascending}
@@ -38,9 +39,8 @@ module _ (p : Operation → Bool) where
     pub passes : p one ≡ true
     pub first : first (keep p os) ≡ picked one
 
-  pub spotted : (os : List Operation) (b : Bool) (k : ℕ) → Spot p os b k → b ≡ true → Spotted os k
-  spotted os b k (none _ h) e = absurd (false≢true e)
-  spotted os b k (spot _ A R o w q h x) e = record {
+  pub spotted : (os : List Operation) (k : ℕ) → Spot p os (Some k) → Spotted os k
+  spotted os k (spot _ A R o w q h x) = record {
     ahead = A;
     behind = R;
     one = o;
@@ -50,26 +50,25 @@ module _ (p : Operation → Bool) where
     first = rw w (first-at A R o h x);
   }
 
-  pub spot_nobody : (os : List Operation) (b : Bool) (k : ℕ) → Spot p os b k → b ≡ false → first (keep p os) ≡ nobody
+  pub spot_nobody : (os : List Operation) → Spot p os None → first (keep p os) ≡ nobody
   unfolding first
-  spot_nobody os b k (none _ h) e = rw (keep_empty p os h)
-  spot_nobody os b k (spot _ A R o w q h x) e = absurd (true≢false e)
+  spot_nobody os (none h) = rw (keep_empty p os h)
 
-  -- one more is looked at: if none was found yet it may be the first
-  pub spot_more : (os : List Operation) (b : Bool) (k : ℕ) (o : Operation) → Spot p os b k → b ≡ true → Spot p (os ++ o ∷ []) b k
-  spot_more os b k o (none _ h) e = absurd (false≢true e)
-  spot_more os b k o (spot _ A R x w q h y) e = spot k A (R ++ o ∷ []) x (rw w (append_assoc A (x ∷ R) (o ∷ []))) q h y
+  -- one more is looked at: where one was found already, that stays the first
+  pub spot_more : (os : List Operation) (f : Option ℕ) (o : Operation) → Spot p os f → is_some f ≡ true → Spot p (os ++ o ∷ []) f
+  spot_more os None o h e = absurd (false≢true e)
+  spot_more os (Some k) o (spot _ A R x w q h y) e = spot k A (R ++ o ∷ []) x (rw w (append_assoc A (x ∷ R) (o ∷ []))) q h y
 
   -- one that doesn't pass
-  pub spot_past : (os : List Operation) (b : Bool) (k : ℕ) (o : Operation) → Spot p os b k → p o ≡ false → Spot p (os ++ o ∷ []) b k
-  spot_past os b k o (none _ h) e = none k (all_append _ os (o ∷ []) h (e, tt))
-  spot_past os b k o (spot _ A R x w q h y) e = spot k A (R ++ o ∷ []) x (rw w (append_assoc A (x ∷ R) (o ∷ []))) q h y
+  pub spot_past : (os : List Operation) (f : Option ℕ) (o : Operation) → Spot p os f → p o ≡ false → Spot p (os ++ o ∷ []) f
+  spot_past os None o (none h) e = none (all_append _ os (o ∷ []) h (e, tt))
+  spot_past os (Some k) o h e = spot_more os (Some k) o h refl
 
-  pub spot_new : (os : List Operation) (b v : Bool) (k i : ℕ) (o : Operation) → Spot p os b k → b ≡ false → i ≡ length os → v ≡ p o
-      → Spot p (os ++ o ∷ []) v i
-  spot_new os b true k i o (none _ h) e q y = spot i os [] o refl q h (sym y)
-  spot_new os b false k i o (none _ h) e q y = none i (all_append _ os (o ∷ []) h (sym y, tt))
-  spot_new os b v k i o (spot _ A R x w q h z) e r y = absurd (true≢false e)
+  -- one that passes, where none did
+  pub spot_new : (os : List Operation) (f : Option ℕ) (i : ℕ) (o : Operation) → Spot p os f → is_some f ≡ false → i ≡ length os
+      → p o ≡ true → Spot p (os ++ o ∷ []) (Some i)
+  spot_new os None i o (none h) e q y = spot i os [] o refl q h y
+  spot_new os (Some k) i o h e q y = absurd (true≢false e)
 
 -- Without the one with an id.
 module _ (i : ℕ) where

@@ -3,21 +3,21 @@
 use Prim.Native.Nat.{ℕ, ◌+◌, ◌≤◌, ◌<◌}
 use native.Mathlib.Omega.{arith}
 use mathlib.Core.Path.{◌≡◌, refl, sym, ap, ◌∙◌}
-use mathlib.Core.Bool.{Bool, true, false, not}
+use mathlib.Core.Bool.{true, false, not}
 use mathlib.Core.List.{List, [], ◌∷◌, ◌++◌, append_assoc, append-nil}
 use lib.ListN.{length, length-append}
+use Rattle.std.specs.Prelude.{Option, Some, None, is_some}
+use Rattle.std.proofs.lemmas.Option.{none-some, same_Some}
 use Rattle.meaning.specs.Sets.{keep}
 use Rattle.meaning.specs.Places.{Document}
 use Rattle.meaning.specs.Ways.{Operation}
 use Rattle.meaning.specs.Receive.{Terminal, dead, able}
 use Rattle.theorems.specs.Invariant.{Sent}
 use Rattle.theorems.specs.Keep.{keep_nil, keep_yes, keep_no, keep_append}
-use Rattle.tables.specs.Words.{Tables}
-use Rattle.judging.specs.Judging.{is_taken, verdict}
-use Rattle.judging.specs.declared.Judgement.{Judgement}
+use Rattle.judging.specs.Judging.{Judgement, is_taken, verdict}
 use Rattle.waiting.specs.Waits.{Gone, TakesOut}
 use Rattle.waiting.proofs.Holds.{all-at, all_but}
-use Rattle.keeping.specs.declared.State.{State}
+use Rattle.keeping.specs.declared.Memory.{Memory}
 use Rattle.settling.specs.Verdicts.{deadly}
 use Rattle.keeping.specs.Keeping.{Keeps}
 use Rattle.settling.specs.Settling.{Looks, Spot, none, Rid}
@@ -42,21 +42,21 @@ live_alive D A o e =
 abbrev pub waiting_for : Terminal → List Operation → Terminal
 waiting_for X os = record { document = X.document; waiting = os }
 
--- the state with this count
-abbrev pub counting : State → ℕ → State
-counting s n = record { counts = s.counts; seen = s.seen; waiting = n }
+-- memory with these waiting operations, so many
+abbrev pub holding : Memory → List ℕ → ℕ → Memory
+holding M t n = record { document = M.document; waiting = t; count = n }
 
 -- at i: the operations that were passed, and the rest
-pub record Sweeping (T : Tables) (t : List ℕ) (s : State) (X : Terminal) (i : ℕ) (b : Bool) (k : ℕ) : Type 0 where
+pub record Sweeping (M : Memory) (X : Terminal) (i : ℕ) (f : Option ℕ) : Type 0 where
   pub passed : List Operation
   pub rest : List Operation
   pub whole : X.waiting ≡ passed ++ rest
-  pub keeps : Keeps T t s (waiting_for X (live X.document passed ++ rest))
+  pub keeps : Keeps M (waiting_for X (live X.document passed ++ rest))
   pub place : i ≡ length (live X.document passed)
-  pub first : Spot (able X.document) (live X.document passed) b k
+  pub first : Spot (able X.document) (live X.document passed) f
 
-pub begins : (T : Tables) (t : List ℕ) (s : State) (X : Terminal) → Keeps T t s X → Sweeping T t s X 0 false 0
-begins T t s X k =
+pub begins : (M : Memory) (X : Terminal) → Keeps M X → Sweeping M X 0 None
+begins M X k =
     let e = keep_nil (λ o. not (dead X.document o)) in
     record {
       passed = [];
@@ -64,16 +64,14 @@ begins T t s X k =
       whole = refl;
       keeps = rw e k;
       place = rw e refl;
-      first = none 0 (rw e tt);
+      first = none (rw e tt);
     }
 
 -- past the last
-pub ends : (T : Tables) (t : List ℕ) (s : State) (X : Terminal) (i : ℕ) (b : Bool) (k : ℕ) → Sweeping T t s X i b k → s.waiting ≤ i
-    → Rid T X (record { state = s; found = b; able = k }) t
-ends T t s X i b k w l = go w.rest w.whole w.keeps
+pub ends : (M : Memory) (X : Terminal) (i : ℕ) (f : Option ℕ) → Sweeping M X i f → M.count ≤ i → Rid X f M
+ends M X i f w l = go w.rest w.whole w.keeps
   where
-    go : (R : List Operation) → X.waiting ≡ w.passed ++ R → Keeps T t s (waiting_for X (live X.document w.passed ++ R))
-        → Rid T X (record { state = s; found = b; able = k }) t
+    go : (R : List Operation) → X.waiting ≡ w.passed ++ R → Keeps M (waiting_for X (live X.document w.passed ++ R)) → Rid X f M
     go [] e h =
         let q : X.waiting ≡ w.passed = e ∙ append-nil w.passed in
         record { keeps = rw (q, ← append-nil (live X.document w.passed)) h; first = rw q w.first }
@@ -81,21 +79,21 @@ ends T t s X i b k w l = go w.rest w.whole w.keeps
         absurd (omega (arith, w.place, h.waiting.count, length-append (live X.document w.passed) (o ∷ R)))
 
 -- The operation at i.
-module _ (T : Tables) (t : List ℕ) (s : State) (X : Terminal) (i : ℕ) (b : Bool) (k : ℕ) where
+module _ (M : Memory) (X : Terminal) (i : ℕ) (f : Option ℕ) where
   -- it is the first of the rest
   record Turn : Type 0 where
     passed : List Operation
     one : Operation
     rest : List Operation
     whole : X.waiting ≡ (passed ++ one ∷ []) ++ rest
-    keeps : Keeps T t s (waiting_for X (live X.document passed ++ one ∷ rest))
+    keeps : Keeps M (waiting_for X (live X.document passed ++ one ∷ rest))
     place : i ≡ length (live X.document passed)
-    first : Spot (able X.document) (live X.document passed) b k
+    first : Spot (able X.document) (live X.document passed) f
 
-  turn : Sweeping T t s X i b k → i < s.waiting → Turn
+  turn : Sweeping M X i f → i < M.count → Turn
   turn w l = go w.rest w.whole w.keeps
     where
-      go : (R : List Operation) → X.waiting ≡ w.passed ++ R → Keeps T t s (waiting_for X (live X.document w.passed ++ R)) → Turn
+      go : (R : List Operation) → X.waiting ≡ w.passed ++ R → Keeps M (waiting_for X (live X.document w.passed ++ R)) → Turn
       go [] e h = absurd (omega (arith, w.place, h.waiting.count, length-append (live X.document w.passed) []))
       go (o ∷ R) e h = record {
         passed = w.passed;
@@ -110,23 +108,29 @@ module _ (T : Tables) (t : List ℕ) (s : State) (X : Terminal) (i : ℕ) (b : B
   above : (w : Turn) → Sent w.one
   above w = all-at Sent (live X.document w.passed) w.rest w.one w.keeps.sent
 
-  module _ (v : Judgement) (L : Looks T t s i v) (S : Sweeping T t s X i b k) (l : i < s.waiting) where
+  -- one is there
+  pub looked : Looks M i None → Sweeping M X i f → i < M.count → ⊥
+  looked L S l =
+      let w = turn S l in
+      none-some _ (L _ (live X.document w.passed) w.rest w.one w.keeps refl w.place)
+
+  module _ (v : Judgement) (L : Looks M i (Some v)) (S : Sweeping M X i f) (l : i < M.count) where
     judged : (w : Turn) → v ≡ verdict w.one X.document
-    judged w = L _ (live X.document w.passed) w.rest w.one w.keeps refl w.place
+    judged w = same_Some _ _ (L _ (live X.document w.passed) w.rest w.one w.keeps refl w.place)
 
     is-dead : (w : Turn) → deadly v ≡ dead X.document w.one
     is-dead w = ap (λ z. deadly z) (judged w) ∙ deadly-verdict X.document w.one (above w).above
 
     -- it is dropped
-    module _ (t' : List ℕ) (m : ℕ) (out : TakesOut t s.waiting i t' m) where
-      gone : (w : Turn) → Gone s.waiting (live X.document w.passed ++ w.rest) t' m
+    module _ (t : List ℕ) (n : ℕ) (out : TakesOut M.waiting M.count i t n) where
+      gone : (w : Turn) → Gone M.count (live X.document w.passed ++ w.rest) t n
       unfolding TakesOut
       gone w = out (live X.document w.passed) w.rest w.one w.keeps.waiting w.place
 
-      pub one_less : m + 1 ≡ s.waiting
+      pub one_less : n + 1 ≡ M.count
       one_less = (gone (turn S l)).fewer
 
-      pub drops : deadly v ≡ true → Sweeping T t' (counting s m) X i b k
+      pub drops : deadly v ≡ true → Sweeping (holding M t n) X i f
       drops d =
           let w = turn S l in
           let e = live-dead X.document w.passed w.one (sym (is-dead w) ∙ d) in
@@ -145,9 +149,8 @@ module _ (T : Tables) (t : List ℕ) (s : State) (X : Terminal) (i : ℕ) (b : B
 
     -- it stays
     module _ (d : deadly v ≡ false) where
-      stays : (b' : Bool) (k' : ℕ) (w : Turn) → Spot (able X.document) (live X.document w.passed ++ w.one ∷ []) b' k'
-          → Sweeping T t s X (i + 1) b' k'
-      stays b' k' w f =
+      stays : (g : Option ℕ) (w : Turn) → Spot (able X.document) (live X.document w.passed ++ w.one ∷ []) g → Sweeping M X (i + 1) g
+      stays g w h =
           let e = live_alive X.document w.passed w.one (sym (is-dead w) ∙ d) in
           let n = length-append (live X.document w.passed) (w.one ∷ []) in
           record {
@@ -156,20 +159,17 @@ module _ (T : Tables) (t : List ℕ) (s : State) (X : Terminal) (i : ℕ) (b : B
             whole = w.whole;
             keeps = rw (e, append_assoc (live X.document w.passed) (w.one ∷ []) w.rest) w.keeps;
             place = rw e (omega (arith, w.place));
-            first = rw e f;
+            first = rw e h;
           }
 
-      pub passes : b ≡ true → Sweeping T t s X (i + 1) b k
-      passes f = let w = turn S l in stays b k w (spot_more (able X.document) _ b k w.one w.first f)
+      taken-is : (w : Turn) → is_taken v ≡ able X.document w.one
+      taken-is w = ap (λ z. is_taken z) (judged w) ∙ taken_verdict X.document w.one (above w).above (sym (is-dead w) ∙ d)
 
-      pub notes : b ≡ false → (x : Bool) → x ≡ is_taken v → Sweeping T t s X (i + 1) x i
-      notes f x y =
-          let w = turn S l in
-          let a = taken_verdict X.document w.one (above w).above (sym (is-dead w) ∙ d) in
-          stays x i w (spot_new (able X.document) _ b x k i w.one w.first f w.place (y ∙ (ap (λ z. is_taken z) (judged w) ∙ a)))
+      pub passes : is_some f ≡ true → Sweeping M X (i + 1) f
+      passes e = let w = turn S l in stays f w (spot_more (able X.document) _ f w.one w.first e)
 
-      pub passes_early : is_taken v ≡ false → Sweeping T t s X (i + 1) b k
-      passes_early f =
-          let w = turn S l in
-          let a = taken_verdict X.document w.one (above w).above (sym (is-dead w) ∙ d) in
-          stays b k w (spot_past (able X.document) _ b k w.one w.first (sym a ∙ (ap (λ z. is_taken z) (sym (judged w)) ∙ f)))
+      pub notes : is_some f ≡ false → is_taken v ≡ true → Sweeping M X (i + 1) (Some i)
+      notes e y = let w = turn S l in stays (Some i) w (spot_new (able X.document) _ f i w.one w.first e w.place (sym (taken-is w) ∙ y))
+
+      pub passes_idle : is_taken v ≡ false → Sweeping M X (i + 1) f
+      passes_idle y = let w = turn S l in stays f w (spot_past (able X.document) _ f w.one w.first (sym (taken-is w) ∙ y))

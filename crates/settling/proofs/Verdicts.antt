@@ -2,25 +2,24 @@
 -- Assumes nothing.
 use mathlib.Core.Path.{◌≡◌, refl}
 use mathlib.Core.Bool.{Bool, true, false, cond, ◌&&◌, ◌||◌, true≢false}
+use Rattle.std.specs.Prelude.{Ok, Err}
 use Rattle.meaning.specs.Places.{Document}
 use Rattle.meaning.specs.Ways.{Operation}
 use Rattle.meaning.specs.Apply.{apply}
 use Rattle.meaning.specs.Limits.{fits}
 use Rattle.meaning.specs.Judge.{not_above, repeated, own_deps_behind, astray, downward}
 use Rattle.meaning.specs.Receive.{ready_in, dead, able}
-use Rattle.judging.specs.Judging.{is_taken, by_counters, ready_verdict, verdict_by, verdict}
+use Rattle.judging.specs.Judging.{Judgement, is_taken, by_counters, ready_verdict, verdict_by, verdict}
 use Rattle.judging.specs.declared.Refusal.TheVariants as F
 use Rattle.judging.specs.declared.Readiness.TheVariants as B
-use Rattle.judging.specs.declared.ReadyJudgement.TheVariants as Y
-use Rattle.judging.specs.declared.Judgement.{Judgement}
-use Rattle.judging.specs.declared.Judgement.TheVariants as J
+use Rattle.judging.specs.declared.Unfit.TheVariants as Y
 use Rattle.settling.specs.Verdicts.{deadly}
 
 -- the verdict by the tests 3, 4, ready, 8, 9, 10
 abbrev by : Bool → Bool → Bool → Bool → Bool → Bool → Judgement
 by r c d a w f =
-    verdict_by (cond r (B.Refused F.Repeat) (cond c (B.Refused F.OwnDeps) (cond d B.Ready B.Early)))
-    (cond a Y.NoElement (cond w Y.NotSmaller (cond f Y.Taken Y.NoRoom)))
+    verdict_by (cond r (Err F.Repeat) (cond c (Err F.OwnDeps) (cond d (Ok B.Ready) (Ok B.Early))))
+    (cond a (Err Y.NoElement) (cond w (Err Y.NotSmaller) (cond f (Ok tt) (Err Y.NoRoom))))
 
 drops : (r c d a w f : Bool) → deadly (by r c d a w f) ≡ (r || c || (d && (a || w)))
 drops true c d a w f = refl
@@ -51,6 +50,6 @@ module _ (D : Document) (o : Operation) (above : not_above o ≡ false) where
   taken_verdict e =
       rw above (takes (repeated D.seen o) (own_deps_behind D.seen o) (ready_in D o) (astray D o) (downward o) (fits (apply o D)) e)
 
-  pub early-verdict : repeated D.seen o ≡ false → own_deps_behind D.seen o ≡ false → ready_in D o ≡ false → verdict o D ≡ J.Early
+  pub early-verdict : repeated D.seen o ≡ false → own_deps_behind D.seen o ≡ false → ready_in D o ≡ false → verdict o D ≡ Ok B.Early
   unfolding verdict by_counters
   early-verdict r k d = rw (above, r, k, d)

@@ -13,13 +13,13 @@ use Rattle.meaning.specs.Sheet.{Row, rows_of, sheet, save}
 use Rattle.meaning.specs.Sound.{Sound}
 use Rattle.meaning.specs.Promises.{Saves}
 use Rattle.meaning.specs.declared.Counters.{Counters}
-use Rattle.meaning.specs.declared.Saved.{Saved}
-use Rattle.meaning.specs.declared.Saved.TheVariants.{Written, ShortBuffer}
+use Rattle.meaning.specs.Answers.{Saved}
+use Rattle.std.specs.Prelude.{Ok, Err}
 use Rattle.theorems.specs.Fit.{FitOn}
 use Rattle.theorems.specs.Saved.{sound_fits}
 use Rattle.theorems.specs.Determined.{saves_once}
 use Rattle.decimal.specs.Take.{Wrote}
-use Rattle.tables.specs.Words.{Tables}
+use Rattle.tables.specs.declared.Tables.{Tables}
 use Rattle.tables.specs.Holding.{Holds, within_tables, holds_within}
 use Rattle.tables.specs.declared.Counts.{Counts}
 use Rattle.sheet.specs.Texts.{sheet_text}
@@ -35,14 +35,14 @@ pub sound_valid : (D : Document) → Sound D → All ValidRow (rows_of D)
 unfolding rows_of
 sound_valid D s = fit_valid D.seen (rows_of D) [] (sound_fits D.seen D.root s.places)
 
-saves_short : (D : Document) (buffer : List ℕ) (n : ℕ) → n ≡ length (sheet D) → length buffer < n → Saves D buffer (ShortBuffer n) buffer
+saves_short : (D : Document) (buffer : List ℕ) (n : ℕ) → n ≡ length (sheet D) → length buffer < n → Saves D buffer (Err (record { needed = n })) buffer
 unfolding save
 saves_short D buffer n e h =
     let l : length buffer < length (sheet D) = omega arith in
     record { answers = rw (lt-ltb (length buffer) (length (sheet D)) l, e); writes = rw (lt-ltb (length buffer) (length (sheet D)) l) }
 
 saves_whole : (D : Document) (buffer after : List ℕ) (n : ℕ) → length (sheet D) ≤ length buffer → Wrote (sheet D) buffer after n
-    → Saves D buffer (Written n) after
+    → Saves D buffer (Ok n) after
 unfolding save
 saves_whole D buffer after n h w =
     record {
@@ -58,7 +58,7 @@ module _ (T : Tables) (c : Counts) (seen : Counters) (buffer : List ℕ) where
   text_is : (D : Document) → Holds T c (rows_of D) → All ValidRow (rows_of D) → seen.at ≡ D.seen → text ≡ sheet D
   text_is D H valid e = ap (sheet_text T c.rows) e ∙ sheet-is T.heads T.keys T.marks T.values c D H valid
 
-  pub too_many : within_tables c ≡ false → Saving T c seen buffer (ShortBuffer unbounded) buffer
+  pub too_many : within_tables c ≡ false → Saving T c seen buffer (Err (record { needed = unbounded })) buffer
   too_many l = record {
     saves = λ D H valid e. absurd (true≢false (sym (holds_within H) ∙ l));
     untouched = λ n e. refl;
@@ -66,7 +66,7 @@ module _ (T : Tables) (c : Counts) (seen : Counters) (buffer : List ℕ) where
   }
 
   module _ (room : within_tables c ≡ true) where
-    pub too_short : (n : ℕ) → n ≡ length text → length buffer < n → Saving T c seen buffer (ShortBuffer n) buffer
+    pub too_short : (n : ℕ) → n ≡ length text → length buffer < n → Saving T c seen buffer (Err (record { needed = n })) buffer
     too_short n e l = record {
       saves = λ D H valid s. saves_short D buffer n (e ∙ ap length (text_is D H valid s)) l;
       untouched = λ n e. refl;
@@ -74,7 +74,7 @@ module _ (T : Tables) (c : Counts) (seen : Counters) (buffer : List ℕ) where
     }
 
     pub written : (n size : ℕ) (after : List ℕ) → size ≡ length text → size ≤ length buffer → Wrote text buffer after n
-        → Saving T c seen buffer (Written n) after
+        → Saving T c seen buffer (Ok n) after
     written n size after e l w = record {
       saves = λ D H valid s. let t = text_is D H valid s in saves_whole D buffer after n (omega (arith, ap length t)) (rw t at w);
       untouched = λ n e. absurd (let z : ◌≡◌ {A = ℕ} 0 1 = cc in omega arith);

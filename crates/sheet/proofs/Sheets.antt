@@ -26,10 +26,10 @@ use Rattle.lines.proofs.Texts.{value_line_text}
 use Rattle.lines.proofs.Words.{key_back}
 use Rattle.listings.specs.Texts.{value_text}
 use Rattle.listings.proofs.Valued.{Valued, value_is, valued-next}
-use Rattle.tables.specs.Words.{bit, side, head_word, map_in, list_in, spot_words, marks_of}
+use Rattle.tables.specs.Words.{bit, hangs, head_word, map_in, list_in, spot_words, marks_of}
 use Rattle.tables.specs.Heads.{head_in, key_in}
 use Rattle.tables.specs.Seek.{further}
-use Rattle.tables.specs.Finds.{GoodSpot, Narrow, bit_small, side_small, depth_in_lem, side_in_lem, marks_in_lem, values_in_lem, after}
+use Rattle.tables.specs.Finds.{GoodSpot, Narrow, bit_small, side_small, depth_in_lem, hangs_in_lem, marks_in_lem, values_in_lem, after}
 use Rattle.tables.specs.Standing.{first, behind}
 use Rattle.tables.specs.Holding.{marks_room, Holds, four}
 use Rattle.tables.specs.Parts.{At, at-behind, behind-at, narrow_at, marks_length, marks_parts}
@@ -94,7 +94,7 @@ bit-back : (b : Bool) → eqb (bit b) 1 ≡ b
 bit-back true = refl
 bit-back false = refl
 
-spot_back : (p : Spot) → GoodSpot p → spot_of (spot_in (side p) (key_in (spot_words p))) ≡ p
+spot_back : (p : Spot) → GoodSpot p → spot_of (spot_in (hangs p) (key_in (spot_words p))) ≡ p
 unfolding spot_in
 spot_back (in_map k) g = rw (le-ltb 16 (length k) g.short) (ap in_map (key_back k g))
 spot_back (in_list i) g = refl
@@ -128,7 +128,7 @@ module _ (h k m v : List ℕ) (c : Counts) where
           at.row,
           key_at_lem h k m v c A R r st.holds,
           depth_in_lem r narrow,
-          side_in_lem r narrow,
+          hangs_in_lem r narrow,
           map_in_lem r narrow,
           list_in_lem r narrow,
           bit-back r.map,

@@ -1,194 +1,110 @@
-// The lines of marks, values and rows, one after another. The writers `then_..` go on at the place `at`: the rest of the buffer is lent,
-// and the answer is the place behind what was written.
-ghost use Rattle.std.specs.Prelude.{◌≡◌, ◌+◌, ◌*◌, ◌≤◌, ◌<◌, length};
-ghost use Rattle.decimal.specs.Powers.{powers_of_ten};
-ghost use Rattle.decimal.specs.Take.{Wrote};
-ghost use Rattle.writers.specs.Wrote.{WroteAt};
-ghost use Rattle.writers.specs.Sized.{Sized};
+// The lines of marks and of rows, one after another.
+ghost use Rattle.std.specs.Prelude.{ℕ, suc, List, ◌≡◌, ◌+◌, ◌*◌, ◌≤◌, ◌<◌, get_or};
+ghost use Rattle.std.proofs.Common.{arith};
+ghost use Rattle.tables.specs.Seek.{further};
 ghost use Rattle.tables.specs.Standing.{first};
-ghost use Rattle.tables.specs.Holding.{four, heads_room};
-ghost use Rattle.sheet.specs.Texts.{marks_text, values_text, row_text, rows_text, Near};
+ghost use Rattle.tables.specs.Holding.{heads_room};
+ghost use Rattle.sheet.specs.Texts.{mark_text, marks_text, row_text, rows_text, Near, near-on};
 
-use crate::parts::{place_size, put_place};
-use lines::{mark_line_size, put_mark_line};
-use listings::{put_values, values_size};
-use tables::{Position, head_at, next_row, word};
+use crate::parts::place_of;
+use lines::{Line, PlaceLine, mark_line};
+use listings::{Values, values_of};
+use tables::{Position, START, Tables, head_at, next_row, word};
+use writers::{Id, Many, Pieces, Text};
+
+// Marks, from one on.
+#[derive(Clone, Copy)]
+pub struct Marks<'a> {
+    pub marks: &'a [u64],
+    pub at: usize,
+}
+
+impl<'a> Pieces for Marks<'a> {
+    type Piece = Line<5, Id>;
+
+    ghost text = { λ m. mark_text m.marks.now m.at };
+
+    ghost next = { λ m. record { marks = m.marks; at = m.at + 1 } };
+
+    ghost each = { 47 };
+
+    ghost Has = { λ m n. m.at + n < 1000000 };
+
+    ghost Here = { λ m. m.at < 999999 };
+
+    fn piece(&self) -> Line<5, Id> {
+        mark_line(word(self.marks, self.at))
+    }
+
+    fn next(self) -> Marks<'a> {
+        Marks {
+            at: self.at + 1,
+            ..self
+        }
+    }
+
+    ghost onward = { λ p n h. (omega arith, omega arith) };
+}
 
 // The lines of n marks, from one on.
-
-fn marks_size(marks: &[u64], from: usize, n: usize, powers: &[u64; 20]) -> usize
-    requires { (powers.now ≡ powers_of_ten) × (from + n < 1000000) }
-    ensures { Sized (marks_text marks.now from n) (47 * n) result }
+fn marks_of<'a>(marks: &'a [u64], from: usize, n: usize) -> Many<Marks<'a>>
+    requires { from + n < 1000000 }
+    ensures text { ⟦<Many<Marks<'a>> as Text>⟧.text result ≡ marks_text marks.now from n }
+    ensures valid { ⟦<Many<Marks<'a>> as Text>⟧.Valid result }
+    ensures most { ⟦<Many<Marks<'a>> as Text>⟧.most result ≡ 47 * n }
 {
-    let mut sum: usize = 0;
-    let mut i = from;
-    let mut left = n;
-    while 0 < left {
-        sum += mark_line_size(word(marks, i), powers);
-        i += 1;
-        left -= 1;
+    let first = Marks { marks, at: from };
+    Many { first, count: n }
+}
+
+// Rows, from one on.
+#[derive(Clone, Copy)]
+pub struct Rows<'a> {
+    pub tables: &'a Tables,
+    pub at: Position,
+}
+
+impl<'a> Pieces for Rows<'a> {
+    // Its place, its marks, its values.
+    type Piece = (PlaceLine, (Many<Marks<'a>>, Many<Values<'a, 6>>));
+
+    ghost text = { λ r. row_text r.tables.now r.at };
+
+    ghost next = { λ r. record { tables = r.tables; at = further r.at (get_or r.tables.now.heads r.at.row 0) } };
+
+    ghost each = { 154533 };
+
+    ghost Has = { λ r n. Near r.at n };
+
+    ghost Here = { λ r. Near r.at 1 };
+
+    fn piece(&self) -> (PlaceLine, (Many<Marks<'a>>, Many<Values<'a, 6>>)) {
+        let t = self.tables;
+        let s = self.at;
+        let h = head_at(&t.heads, s.row);
+        let marks = marks_of(&t.marks, s.mark, h.marks);
+        let values = values_of(*b"value=", &t.values, s.value, h.values);
+        (place_of(h, &t.keys, s.row), (marks, values))
     }
-    sum
-}
 
-fn put_marks(buf: &mut [u8], marks: &[u64], from: usize, n: usize, powers: &[u64; 20]) -> usize
-    requires { (powers.now ≡ powers_of_ten) × (from + n < 1000000) × (length (marks_text marks.now from n) ≤ length buf.old) }
-    ensures { Wrote (marks_text marks.now from n) buf.old buf.new result }
-{
-    let mut at: usize = 0;
-    let mut i = from;
-    let mut left = n;
-    while 0 < left {
-        at += put_mark_line(&mut buf[at..], word(marks, i), powers);
-        i += 1;
-        left -= 1;
+    fn next(self) -> Rows<'a> {
+        let at = next_row(&self.tables.heads, self.at);
+        Rows { at, ..self }
     }
-    at
-}
 
-fn then_marks(
-    buf: &mut [u8],
-    at: usize,
-    marks: &[u64],
-    from: usize,
-    n: usize,
-    powers: &[u64; 20],
-) -> usize
-    requires { (powers.now ≡ powers_of_ten) × (from + n < 1000000) × (at + length (marks_text marks.now from n) ≤ length buf.old) }
-    ensures { WroteAt (marks_text marks.now from n) at buf.old buf.new result }
-{
-    at + put_marks(&mut buf[at..], marks, from, n, powers)
-}
-
-// The lines of n values, from one on.
-fn then_values(
-    buf: &mut [u8],
-    at: usize,
-    values: &[u64],
-    from: usize,
-    n: usize,
-    powers: &[u64; 20],
-) -> usize
-    requires { (powers.now ≡ powers_of_ten) × (from + n < 1000000) × (at + length (values_text values.now from n) ≤ length buf.old) }
-    ensures { WroteAt (values_text values.now from n) at buf.old buf.new result }
-{
-    at + put_values(&mut buf[at..], values, from, n, b"value=", powers)
-}
-
-// The lines of a row: its place, its marks, its values.
-
-fn row_size(
-    heads: &[u64],
-    keys: &[u64],
-    marks: &[u64],
-    values: &[u64],
-    s: Position,
-    powers: &[u64; 20],
-) -> usize
-    requires { (powers.now ≡ powers_of_ten) × Near s }
-    ensures { Sized (row_text (four heads.now keys.now marks.now values.now) s)
-        154533 result }
-{
-    let h = head_at(heads, s.row);
-    let a = place_size(h, keys, s.row, powers);
-    let b = marks_size(marks, s.mark, h.marks, powers);
-    let c = values_size(values, s.value, h.values, b"value=", powers);
-    a + b + c
-}
-
-fn put_row(
-    buf: &mut [u8],
-    heads: &[u64],
-    keys: &[u64],
-    marks: &[u64],
-    values: &[u64],
-    s: Position,
-    powers: &[u64; 20],
-) -> usize
-    requires { (powers.now ≡ powers_of_ten) × Near s
-        × (length (row_text (four heads.now keys.now marks.now values.now) s) ≤ length buf.old) }
-    ensures { Wrote (row_text (four heads.now keys.now marks.now values.now) s)
-        buf.old buf.new result }
-{
-    let h = head_at(heads, s.row);
-    let a = put_place(buf, h, keys, s.row, powers);
-    let b = then_marks(buf, a, marks, s.mark, h.marks, powers);
-    then_values(buf, b, values, s.value, h.values, powers)
+    ghost onward = { λ p n h. near-on p.at n (get_or p.tables.now.heads p.at.row 0) h };
 }
 
 // The lines of all rows.
-
-pub fn rows_size(
-    heads: &[u64],
-    keys: &[u64],
-    marks: &[u64],
-    values: &[u64],
-    rows: usize,
-    powers: &[u64; 20],
-) -> usize
-    requires { (powers.now ≡ powers_of_ten) × (rows ≤ heads_room) }
-    ensures { Sized (rows_text (four heads.now keys.now marks.now values.now) first rows)
-        (154533 * rows) result }
+pub fn rows_of<'a>(t: &'a Tables, rows: usize) -> Many<Rows<'a>>
+    requires { rows ≤ heads_room }
+    ensures text { ⟦<Many<Rows<'a>> as Text>⟧.text result ≡ rows_text t.now first rows }
+    ensures valid { ⟦<Many<Rows<'a>> as Text>⟧.Valid result }
+    ensures most { ⟦<Many<Rows<'a>> as Text>⟧.most result ≡ 154533 * rows }
 {
-    let mut sum: usize = 0;
-    let mut s = Position {
-        row: 0,
-        mark: 0,
-        value: 0,
+    let first = Rows {
+        tables: t,
+        at: START,
     };
-    let mut left = rows;
-    while 0 < left {
-        sum += row_size(heads, keys, marks, values, s, powers);
-        s = next_row(heads, s);
-        left -= 1;
-    }
-    sum
-}
-
-fn put_rows(
-    buf: &mut [u8],
-    heads: &[u64],
-    keys: &[u64],
-    marks: &[u64],
-    values: &[u64],
-    rows: usize,
-    powers: &[u64; 20],
-) -> usize
-    requires { (powers.now ≡ powers_of_ten) × (rows ≤ heads_room)
-        × (length (rows_text (four heads.now keys.now marks.now values.now) first rows) ≤ length buf.old) }
-    ensures { Wrote (rows_text (four heads.now keys.now marks.now values.now) first rows)
-        buf.old buf.new result }
-{
-    let mut at: usize = 0;
-    let mut s = Position {
-        row: 0,
-        mark: 0,
-        value: 0,
-    };
-    let mut left = rows;
-    while 0 < left {
-        at += put_row(&mut buf[at..], heads, keys, marks, values, s, powers);
-        s = next_row(heads, s);
-        left -= 1;
-    }
-    at
-}
-
-pub fn then_rows(
-    buf: &mut [u8],
-    at: usize,
-    heads: &[u64],
-    keys: &[u64],
-    marks: &[u64],
-    values: &[u64],
-    rows: usize,
-    powers: &[u64; 20],
-) -> usize
-    requires { (powers.now ≡ powers_of_ten) × (rows ≤ heads_room)
-        × (at + length (rows_text (four heads.now keys.now marks.now values.now) first rows) ≤ length buf.old) }
-    ensures { WroteAt
-        (rows_text (four heads.now keys.now marks.now values.now) first rows)
-        at buf.old buf.new result }
-{
-    at + put_rows(&mut buf[at..], heads, keys, marks, values, rows, powers)
+    Many { first, count: rows }
 }

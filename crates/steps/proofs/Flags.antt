@@ -1,9 +1,8 @@
--- The flag of a row's list, or of its map, in tables that hold rows.
+-- The flag of a row's side, or of its map, in tables that hold rows.
 -- Assumes nothing.
 use Prim.Native.Nat.{ℕ, ◌+◌, ◌<◌}
 use native.Mathlib.Omega.{arith}
 use mathlib.Core.Path.{◌≡◌, refl, ap, ◌∙◌}
-use mathlib.Core.Bool.{Bool, true, false}
 use mathlib.Core.List.{List, ◌∷◌, ◌++◌}
 use lib.ListN.{length, set, get_or}
 use Rattle.meaning.specs.Sheet.{Row}
@@ -15,11 +14,13 @@ use Rattle.tables.specs.Stands.{head_at_lem}
 use Rattle.tables.specs.Changed.{marks_same, values_same, changed}
 use Rattle.tables.specs.Rewritten.{flag_word}
 use Rattle.tables.specs.declared.Counts.{Counts}
+use Rattle.tables.specs.declared.Side.{Side}
+use Rattle.tables.specs.declared.Side.TheVariants as S
 use Rattle.steps.specs.Steps.{Flags}
 
-pub flagged_row : (h k m v : List ℕ) (c : Counts) (A R : List Row) (r : Row) (list : Bool) → Holds (four h k m v) c (A ++ r ∷ R)
-    → Holds (four (set h (length A) (head_word (flag_row list r))) k m v) c (A ++ flag_row list r ∷ R)
-flagged_row h k m v c A R r list H = go list
+pub flagged_row : (h k m v : List ℕ) (c : Counts) (A R : List Row) (r : Row) (side : Side) → Holds (four h k m v) c (A ++ r ∷ R)
+    → Holds (four (set h (length A) (head_word (flag_row side r))) k m v) c (A ++ flag_row side r ∷ R)
+flagged_row h k m v c A R r side H = go side
   where
     there : (r' : Row) → r.spot ≡ r'.spot → r.marks ≡ r'.marks → r.values ≡ r'.values → (Good r → Good r')
         → Holds (four (set h (length A) (head_word r')) k m v) c (A ++ r' ∷ R)
@@ -28,14 +29,14 @@ flagged_row h k m v c A R r list H = go list
         (H.values ∙ ap (pad values_room) (values_same A r r' R f)) refl (ap (λ l. c.marks + length l) e) (ap (λ l. c.values + length l) f)
         H.marks_fit H.values_fit
 
-    go : (b : Bool) → Holds (four (set h (length A) (head_word (flag_row b r))) k m v) c (A ++ flag_row b r ∷ R)
-    go true = there _ refl refl refl (λ g. record { spot = g.spot; depth = g.depth; marks = g.marks; values = g.values })
-    go false = there _ refl refl refl (λ g. record { spot = g.spot; depth = g.depth; marks = g.marks; values = g.values })
+    go : (b : Side) → Holds (four (set h (length A) (head_word (flag_row b r))) k m v) c (A ++ flag_row b r ∷ R)
+    go S.List = there _ refl refl refl (λ g. record { spot = g.spot; depth = g.depth; marks = g.marks; values = g.values })
+    go S.Map = there _ refl refl refl (λ g. record { spot = g.spot; depth = g.depth; marks = g.marks; values = g.values })
 
-pub flags : (list : Bool) (row w : ℕ) (h : List ℕ) → w ≡ with_flag list (get_or h row 0) → Flags list row h (set h row w)
+pub flags : (side : Side) (row w : ℕ) (h : List ℕ) → w ≡ with_flag side (get_or h row 0) → Flags side row h (set h row w)
 unfolding Flags
-flags list row w h f k m v c A R r H e =
+flags side row w h f k m v c A R r H e =
     let G = all_right Good A (r ∷ R) H.good in
     let d : r.depth < 16 = omega (arith, G.0.depth) in
-    let q : w ≡ head_word (flag_row list r) = f ∙ (ap (with_flag list) (rw e (head_at_lem h k m v c A R r H)) ∙ flag_word r d list) in
-    rw (q, e) (flagged_row h k m v c A R r list H)
+    let q : w ≡ head_word (flag_row side r) = f ∙ (ap (with_flag side) (rw e (head_at_lem h k m v c A R r H)) ∙ flag_word r d side) in
+    rw (q, e) (flagged_row h k m v c A R r side H)

@@ -17,7 +17,8 @@ use Rattle.words.proofs.Over.{run-parts}
 use Rattle.words.proofs.Flat.{alone, flat_own, strides_own}
 use Rattle.words.specs.Gap.{Gap}
 use Rattle.words.proofs.Gap.{gap_open, gap_run, gap_put, zeros-behind}
-use Rattle.tables.specs.Words.{head_word, marks_at, marks_of, pad, Tables}
+use Rattle.tables.specs.Words.{head_word, marks_at, marks_of, pad}
+use Rattle.tables.specs.declared.Tables.{Tables}
 use Rattle.tables.specs.Heads.{with_mark}
 use Rattle.tables.specs.Holding.{marks_room, values_room, Holds}
 use Rattle.tables.specs.Parts.{at-behind, marks_length, marks_long, marks_of_append, marks_parts}

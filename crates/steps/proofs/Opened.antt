@@ -17,6 +17,7 @@ use Rattle.tables.specs.Standing.{heads-append, keys-append, heads-length, keys_
 use Rattle.tables.specs.Holding.{heads_room, keys_room, marks_room, values_room, Good, Holds, four}
 use Rattle.tables.specs.Parts.{marks_of_append, values_of_append, all_left, all_right, all_both, heads_long, keys_long}
 use Rattle.tables.specs.declared.Counts.{Counts}
+use Rattle.tables.specs.declared.Side.{Side}
 use Rattle.steps.specs.Steps.{Opens}
 use Rattle.tables.specs.Changed.{marks_between, values-between, rows_between}
 use Rattle.tables.specs.Rewritten.{new_word}
@@ -72,13 +73,13 @@ module _ (A R : List Row) (r : Row) where
   values_stay e =
       values_of_append A R ∙ (ap (λ l. values_of A ++ (each_value l ++ values_of R)) (sym e) ∙ sym (values_of_append A (r ∷ R)))
 
-pub opens : (at depth s hi lo len head : ℕ) (c : Counts) (h h₁ k k₁ k₂ : List ℕ) → at ≤ c.rows → c.rows < length h → 3 * c.rows + 3 ≤ length k
+pub opens : (at depth hi lo len head : ℕ) (s : Side) (c : Counts) (h h₁ k k₁ k₂ : List ℕ) → at ≤ c.rows → c.rows < length h → 3 * c.rows + 3 ≤ length k
     → h₁ ≡ opened c.rows at 1 h → k₁ ≡ opened (3 * c.rows) (3 * at) 3 k → k₂ ≡ over_at (3 * at) (hi ∷ lo ∷ len ∷ []) k₁
     → head ≡ new_head depth s
     → Opens at depth s (hi ∷ lo ∷ len ∷ []) c h k (record { rows = c.rows + 1; marks = c.marks; values = c.values })
     (set h₁ at head) k₂
 unfolding Opens
-opens at depth s hi lo len head c h h₁ k k₁ k₂ a b d z e f o m v A R p H x l n g w t =
+opens at depth hi lo len head s c h h₁ k k₁ k₂ a b d z e f o m v A R p H x l n g w t =
     let r : Row = new_row depth p in
     let u : List ℕ = hi ∷ lo ∷ len ∷ [] in
     let hw : head ≡ head_word r = o ∙ rw t (new_word depth p) in

@@ -1,24 +1,24 @@
 // The single steps over the document's tables that open a row, mark it or set a flag. Each is safe on any memory: a place, a
 // count or a table that doesn't fit is found before the first word is written. What they promise of tables that hold rows says specs/Steps.
+// Each is lent only the tables that it changes (docs/DECISIONS.md, 40), so that no clause has to say that the others stay.
 #![tactic(auto)]
 
-ghost use Rattle.std.specs.Prelude.{[], ◌∷◌};
+ghost use Rattle.readers.specs.Hex.{words_in};
 ghost use Rattle.steps.specs.Steps.{Flags, Opens, Marks};
 
+use readers::Key;
 use tables::{
-    Counts, DEEPEST, LIST, MARKS_ROOM, Position, ROWS_ROOM, head_in, new_head, with_flag, with_mark,
+    Counts, DEEPEST, MARKS_ROOM, Position, ROWS_ROOM, Side, head_in, new_head, with_flag, with_mark,
 };
-use words::{open, rank, write3};
+use words::{lay, open, rank_rows};
 
-// Sets the flag of a row's list, or of its map.
-pub fn flag_row(heads: &mut [u64], row: usize, list: bool)
-    ensures { Flags list row heads.old heads.new }
+// Sets the flag of a row's branch.
+pub fn flag_row(heads: &mut [u64], row: usize, side: Side)
+    ensures { Flags side row heads.old heads.new }
 {
-    if row >= heads.len() {
-        return;
+    if row < heads.len() {
+        heads[row] = with_flag(heads[row], side);
     }
-    let h = heads[row];
-    heads[row] = with_flag(h, list);
 }
 
 // Opens a row without flags, marks and values before row `at`.
@@ -28,40 +28,27 @@ pub fn open_row(
     c: Counts,
     at: usize,
     depth: u64,
-    side: u64,
-    hi: u64,
-    lo: u64,
-    len: u64,
+    side: Side,
+    key: Key,
 ) -> Counts
-    ensures { Opens at depth side (hi ∷ lo ∷ len ∷ []) c heads.old keys.old result heads.new keys.new }
+    ensures { Opens at depth side (words_in key) c heads.old keys.old result heads.new keys.new }
 {
     let rows = c.rows;
-    if rows >= ROWS_ROOM {
-        return c;
-    }
-    if at > rows {
-        return c;
-    }
-    if depth > DEEPEST {
-        return c;
-    }
-    if side > LIST {
-        return c;
-    }
-    if heads.len() <= rows {
-        return c;
-    }
-    if keys.len() < 3 * rows + 3 {
+    if rows >= ROWS_ROOM
+        || at > rows
+        || depth > DEEPEST
+        || heads.len() <= rows
+        || keys.len() < 3 * rows + 3
+    {
         return c;
     }
     open(heads, rows, at, 1);
     heads[at] = new_head(depth, side);
     open(keys, 3 * rows, 3 * at, 3);
-    write3(keys, 3 * at, hi, lo, len);
+    lay(keys, 3 * at, &[key.hi, key.lo, key.len]);
     Counts {
         rows: rows + 1,
-        marks: c.marks,
-        values: c.values,
+        ..c
     }
 }
 
@@ -89,42 +76,28 @@ pub fn mark_row(
     let row = s.row;
     let from = s.mark;
     let live = c.marks;
-    if row >= heads.len() {
-        return WithGap { counts: c, gap };
-    }
-    if live >= MARKS_ROOM {
-        return WithGap { counts: c, gap };
-    }
-    if g == 0 {
-        return WithGap { counts: c, gap };
-    }
-    if gap > marks.len() {
-        return WithGap { counts: c, gap };
-    }
-    if g > marks.len() - gap {
+    if row >= heads.len()
+        || live >= MARKS_ROOM
+        || g == 0
+        || gap > marks.len()
+        || g > marks.len() - gap
+    {
         return WithGap { counts: c, gap };
     }
     let h = heads[row];
     let n = head_in(h).marks;
-    if n >= MARKS_ROOM {
+    if n >= MARKS_ROOM || from > gap || n > gap - from {
         return WithGap { counts: c, gap };
     }
-    if from > gap {
-        return WithGap { counts: c, gap };
-    }
-    if n > gap - from {
-        return WithGap { counts: c, gap };
-    }
-    let k = rank(marks, from, n, id);
+    let k = rank_rows::<1>(marks, from, n, id);
     let at = from + k;
     open(marks, gap, at, g);
     marks[at + g - 1] = id;
     heads[row] = with_mark(h);
     WithGap {
         counts: Counts {
-            rows: c.rows,
             marks: live + 1,
-            values: c.values,
+            ..c
         },
         gap: at,
     }

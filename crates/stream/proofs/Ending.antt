@@ -1,6 +1,6 @@
 -- Where a message ends: the laws of the search, and what the place that it finds means.
 -- Assumes nothing.
-use Prim.Native.Nat.{ℕ, suc, ◌+◌, ◌-◌, ◌≤◌, ◌<◌}
+use Prim.Native.Nat.{ℕ, suc, max, ◌+◌, ◌-◌, ◌≤◌, ◌<◌}
 use native.Mathlib.Numerals.{add-one}
 use native.Mathlib.Omega.{arith}
 use mathlib.Core.Path.{◌≡◌, refl, sym, ap, ◌∙◌}
@@ -12,6 +12,7 @@ use lib.Seq.{drop-cons, drop-drop}
 use borrow.Author.Tests.{eq-eqb, ne_eqb}
 use Rattle.meaning.specs.Ascii.{byte}
 use Rattle.meaning.specs.Stream.{messages}
+use Rattle.theorems.specs.Decide.{Tri, less, same, more, tri}
 use Rattle.stream.specs.Ends.{opens, first, Ends, Cutting, done, cut}
 use Rattle.stream.proofs.Messages.{messages_none, first_some, first_most, first_cuts}
 
@@ -73,5 +74,10 @@ module _ {s : List ℕ} {a e : ℕ} (k : Searching s a e) where
   pub other_line : e < length s → get_or s e 0 ≡ byte "\n" → false ≡ opens (drop (e + 1) s) → Searching s a (e + 1)
   other_line h b o = on h (by_byte h ∙ rw (eq-eqb (get_or s e 0) (byte "\n") b, ← o))
 
-  pub at_end : length s ≤ e → Ends s a e
-  at_end h = ends s a e (omega (arith, k.same, first_past s e h))
+  pub at_end : length s ≤ e → (a ≤ length s → e ≤ length s) → (r : ℕ) → r ≡ max a (length s) → Ends s a r
+  at_end h g r m = ends s a r (go (tri (length s) a))
+    where
+      go : Tri (length s) a → r ≡ a + first (drop a s)
+      go (less l) = omega (arith, first_past s a (omega arith))
+      go (same l) = omega (arith, first_past s a (omega arith))
+      go (more l) = omega (arith, k.same, first_past s e h, g (omega arith))

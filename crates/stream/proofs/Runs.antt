@@ -3,17 +3,19 @@
 -- Assumes nothing.
 use Prim.Native.Nat.{ℕ, ◌-◌, ◌<◌}
 use native.Mathlib.Omega.{arith}
+use Rattle.std.specs.Prelude.{Err}
 use mathlib.Core.Path.{◌≡◌, refl, sym, ap, ◌∙◌}
 use mathlib.Core.Bool.{Bool, true, false}
 use mathlib.Core.List.{List, [], ◌∷◌, ◌++◌, map, append_assoc}
 use lib.ListN.{length, take, drop}
+use Rattle.std.specs.Prelude.{Err}
 use Rattle.meaning.specs.Stream.{messages}
 use Rattle.meaning.specs.Ways.{Operation}
 use Rattle.meaning.specs.Valid.{ValidOperation}
 use Rattle.meaning.specs.Message.{message}
 use Rattle.meaning.specs.Receive.{Terminal}
 use Rattle.meaning.specs.Promises.{says_nothing, Receives}
-use Rattle.meaning.specs.declared.Receipt.TheVariants as R
+use Rattle.meaning.specs.declared.ReceiveError.TheVariants as R
 use Rattle.theorems.specs.Sizes.{message-short}
 use Rattle.stream.specs.Pieces.{Piece, whole, too_long, judged, pieces, held, Run, joined}
 use Rattle.stream.specs.Pieces as p
@@ -50,7 +52,7 @@ run-messages {s} {c} {chunks} e f r =
     (λ k. pieces false (take k (drop c.from s) ++ joined chunks)) n)
 
 -- a message that is too long is refused
-pub long_refused : (T : Terminal) (m : List ℕ) → 463 < length m → Receives T m R.Layout T
+pub long_refused : (T : Terminal) (m : List ℕ) → 463 < length m → Receives T m (Err R.Layout) T
 long_refused T m h = record { reads = says_nothing no; answers = refl; leaves = refl }
   where
     no : (o : Operation) → ValidOperation o → m ≡ message o → ⊥

@@ -2,8 +2,8 @@
 // line, LF included, or at the end.
 #![tactic(auto)]
 
-ghost use Rattle.std.specs.Prelude.{◌≡◌, ◌≤◌, length, drop};
-ghost use Rattle.stream.specs.Ends.{starts_with, opens, Ends};
+ghost use Rattle.std.specs.Prelude.{◌≡◌, ◌≤◌};
+ghost use Rattle.stream.specs.Ends.{Ends};
 ghost use Rattle.stream.specs.Pieces.{CutInside, Steps, Moved};
 ghost use Rattle.stream.specs.Steps.{handed, waiting, step};
 
@@ -24,39 +24,22 @@ pub enum Step {
     More { next: Cut },
 }
 
-// Whether a text stands at the place a.
-fn stands(s: &[u8], a: usize, text: &[u8]) -> bool
-    requires { a ≤ length s.now }
-    ensures { result ≡ starts_with text.now (drop a s.now) }
-{
-    if s.len() - a < text.len() {
-        return false;
-    }
-    let mut i: usize = 0;
-    while i < text.len() {
-        if s[a + i] != text[i] {
-            return false;
-        }
-        i += 1;
-    }
-    true
-}
+// The line that a message begins with.
+const OP_LINE: [u8; 5] = *b"op=1\n";
+
+// How many bytes a message has at most.
+const LONGEST: usize = 463;
 
 // The place where the message that begins at a ends.
 pub fn next_message(s: &[u8], a: usize) -> usize
     ensures { Ends s.now a result }
 {
-    let mut e = a;
-    while e < s.len() {
-        let b = s[e];
-        e += 1;
-        if b == b'\n' {
-            if stands(s, e, b"op=1\n") {
-                return e;
-            }
+    for e in a..s.len() {
+        if s[e] == b'\n' && s[e + 1..].starts_with(&OP_LINE) {
+            return e + 1;
         }
     }
-    e
+    a.max(s.len())
 }
 
 // The message that goes on from the cut ends at e.
@@ -70,25 +53,23 @@ fn hand(c: Cut, e: usize) -> Step
         to: c.to,
         passing: false,
     };
-    if c.passing {
-        return Step::TooLong { next };
+    if c.passing || LONGEST < e - c.from {
+        Step::TooLong { next }
+    } else {
+        Step::Message { next }
     }
-    if 463 < e - c.from {
-        return Step::TooLong { next };
-    }
-    Step::Message { next }
 }
 
-// No message ends in the bytes that are held. Of a message that is too long the last five are enough: with what follows, they may be the LF
-// and an `op=1` line.
+// No message ends in the bytes that are held. Of a message that is too long the last are enough, as many as an `op=1` line has: with what
+// follows, they may be the LF and such a line.
 #[tactic(auto, unfolding(crate::specs::Steps::waiting))]
 fn wait(c: Cut) -> Cut
     requires { c.from ≤ c.to }
     ensures { result ≡ waiting c }
 {
-    if 468 < c.to - c.from {
+    if LONGEST + OP_LINE.len() < c.to - c.from {
         return Cut {
-            from: c.to - 5,
+            from: c.to - OP_LINE.len(),
             to: c.to,
             passing: true,
         };
@@ -108,13 +89,11 @@ pub fn next_piece(buf: &[u8], c: Cut, last: bool) -> Step
         return Step::More { next: c };
     }
     let e = next_message(&buf[..to], from);
-    if e < to {
-        return hand(c, e);
+    if e < to || last {
+        hand(c, e)
+    } else {
+        Step::More { next: wait(c) }
     }
-    if last {
-        return hand(c, e);
-    }
-    Step::More { next: wait(c) }
 }
 
 // Moves the held bytes to the buffer's start, so that more can be read behind them.
@@ -122,16 +101,10 @@ pub fn make_room(buf: &mut [u8], c: Cut) -> Cut
     requires { CutInside buf.old c }
     ensures { Moved buf.old c buf.new result }
 {
-    let from = c.from;
-    let n = c.to - from;
-    let mut i: usize = 0;
-    while i < n {
-        buf[i] = buf[from + i];
-        i += 1;
-    }
+    buf.copy_within(c.from..c.to, 0);
     Cut {
         from: 0,
-        to: n,
+        to: c.to - c.from,
         passing: c.passing,
     }
 }

@@ -7,7 +7,8 @@ use Rattle.std.proofs.lemmas.List.{set_at}
 use Rattle.meaning.specs.Load.{marks_in, values_in}
 use Rattle.meaning.specs.Sheet.{Row}
 use Rattle.theorems.specs.Accepting.{marks_append, values-append}
-use Rattle.tables.specs.Words.{head_word, heads_of, keys_of, marks_of, values_of, each_value, spot_words, pad, Tables}
+use Rattle.tables.specs.Words.{head_word, heads_of, keys_of, marks_of, values_of, each_value, spot_words, pad}
+use Rattle.tables.specs.declared.Tables.{Tables}
 use Rattle.tables.specs.Standing.{keys-append, heads-length}
 use Rattle.tables.specs.Holding.{heads_room, keys_room, marks_room, values_room, Good, Holds, four}
 use Rattle.tables.specs.Parts.{marks_of_append, values_of_append, all_left, all_right, all_both, heads_long, heads-parts}

@@ -6,15 +6,16 @@ use Rattle.std.proofs.Common.{arith, ◌∙◌}
 use Rattle.std.proofs.Math.Path.{refl, sym, ap}
 use mathlib.Core.List.{List, [], ◌∷◌, ◌++◌}
 use Rattle.std.proofs.Math.Dec.{eqb}
+use Rattle.std.specs.Ordering.{is_gt, is_eq}
 use Rattle.meaning.specs.Places.{Turn, before, equal, beyond, order}
 use Rattle.meaning.specs.Valid.{ValidKey}
 use Rattle.meaning.specs.Sheet.{Spot, in_map, in_list, Row}
 use Rattle.rows.specs.Blocks.{passed, over, at, key_below, is_key, is_id, is_greater, in_a_map}
 use Rattle.readers.specs.Words.{pack}
 use Rattle.readers.specs.Order.{words_order}
-use Rattle.tables.specs.Words.{bit, side, head_word, depth_in, side_in, marks_at, values_at, spot_words, heads_of, keys_of}
-use Rattle.tables.specs.Heads.{head_in, key_in}
-use Rattle.tables.specs.Seek.{turn, turn_number, passes_one, goes_over, is_sought, further, seek_words}
+use Rattle.tables.specs.Words.{bit, side, hangs, head_word, depth_in, side_in, marks_at, values_at, spot_words, heads_of, keys_of}
+use Rattle.tables.specs.Heads.{side_of, head_in, key_in}
+use Rattle.tables.specs.Seek.{ordering_of, passes_one, goes_over, is_sought, meant, further, seek_words}
 use Rattle.tables.specs.declared.Position.{Position}
 use Rattle.readers.specs.declared.Key.{Key}
 use Rattle.tables.specs.declared.Aim.TheVariants as A
@@ -45,12 +46,19 @@ pub side_small : (p : Spot) → side p < 2
 side_small (in_map k) = omega arith
 side_small (in_list i) = omega arith
 
+side_hangs : (p : Spot) → side_of (side p) ≡ hangs p
+side_hangs (in_map k) = refl
+side_hangs (in_list i) = refl
+
 module _ (r : Row) (h : Narrow r) where
   pub depth_in_lem : depth_in (head_word r) ≡ r.depth
   depth_in_lem = omega (arith, h.depth)
 
   pub side_in_lem : side_in (head_word r) ≡ side r.spot
   side_in_lem = omega (arith, h.depth, side_small r.spot)
+
+  pub hangs_in_lem : side_of (side_in (head_word r)) ≡ hangs r.spot
+  hangs_in_lem = rw side_in_lem (side_hangs r.spot)
 
   pub marks_in_lem : marks_at (head_word r) ≡ length r.marks
   marks_in_lem = omega (arith, h.depth, h.marks, side_small r.spot, bit_small r.map, bit_small r.list)
@@ -80,7 +88,7 @@ keys_on (in_list i) ks qs = refl
 
 -- the search w goes over, of the rows of its depth, those whose spot passes
 abbrev pub Agrees : Search → (Spot → Bool) → Type 0
-Agrees w pass = (p : Spot) → GoodSpot p → passes_one w (side p) (key_in (spot_words p)) ≡ pass p
+Agrees w pass = (p : Spot) → GoodSpot p → passes_one w (hangs p) (key_in (spot_words p)) ≡ pass p
 
 both : (b c e : Bool) → cond b true (cond c e false) ≡ b || (c && e)
 both true c e = refl
@@ -92,7 +100,7 @@ module _ (w : Search) (pass : Spot → Bool) (agrees : Agrees w pass) where
       → goes_over w (head_in (head_word r)) (key_in ((spot_words r.spot ++ ks) ++ qs)) ≡ over w.depth pass r
   unfolding goes_over
   over_same r h ks qs =
-      rw (depth_in_lem r h, side_in_lem r h, key_here r.spot ks qs, agrees r.spot h.spot)
+      rw (depth_in_lem r h, hangs_in_lem r h, key_here r.spot ks qs, agrees r.spot h.spot)
       (both (ltb w.depth r.depth) (eqb r.depth w.depth) (pass r.spot))
 
   pub finds : (rs : List Row) → AllNarrow rs → (qs : List ℕ) (s : Position)
@@ -134,12 +142,12 @@ want_head n i = record { aim = A.FirstSeat; depth = n; key = element_key i }
 abbrev pub want_end : ℕ → Search
 want_end n = record { aim = A.End; depth = n; key = record { hi = 0; lo = 0; len = 0 } }
 
-two : (t : Turn) → eqb (turn_number t) 2 ≡ elim t [ before ↦ false | equal ↦ false | beyond ↦ true ]
+two : (t : Turn) → is_gt (ordering_of t) ≡ elim t [ before ↦ false | equal ↦ false | beyond ↦ true ]
 two before = refl
 two equal = refl
 two beyond = refl
 
-one : (t : Turn) → eqb (turn_number t) 1 ≡ elim t [ before ↦ false | equal ↦ true | beyond ↦ false ]
+one : (t : Turn) → is_eq (ordering_of t) ≡ elim t [ before ↦ false | equal ↦ true | beyond ↦ false ]
 one before = refl
 one equal = refl
 one beyond = refl
@@ -147,7 +155,7 @@ one beyond = refl
 module _ (n : ℕ) where
   pub key_agrees : (k : List ℕ) → ValidKey k → Agrees (want_key n k) (key_below k)
   unfolding passes_one
-  key_agrees k v (in_map j) h = ap (λ t. eqb (turn_number t) 2) (words_order k j v h) ∙ two (order k j)
+  key_agrees k v (in_map j) h = ap (λ t. is_gt (ordering_of t)) (words_order k j v h) ∙ two (order k j)
   key_agrees k v (in_list i) h = refl
 
   pub element_agrees : (e : ℕ) → Agrees (want_element n e) (λ p. not (is_id e p))
@@ -179,20 +187,20 @@ narrowed false b = refl
 
 pub key_tells : (n : ℕ) (k : List ℕ) → ValidKey k → Tells (want_key n k) (is_key k)
 unfolding is_sought
-key_tells n k v r h = rw (depth_in_lem r h, side_in_lem r h) (go r.spot h.spot)
+key_tells n k v r h = rw (depth_in_lem r h, hangs_in_lem r h) (go r.spot h.spot)
   where
     go : (p : Spot) → GoodSpot p
-        → cond (eqb r.depth n) (cond (eqb (side p) 0) (eqb (turn_number (turn (want_key n k).key (key_in (spot_words p)))) 1) false) false
+        → cond (eqb r.depth n) (meant A.Key (hangs p) (want_key n k).key (key_in (spot_words p))) false
         ≡ eqb r.depth n && is_key k p
     go (in_map j) g =
-        narrowed (eqb r.depth n) _ ∙ ap (eqb r.depth n &&◌) (ap (λ t. eqb (turn_number t) 1) (words_order k j v g) ∙ one (order k j))
+        narrowed (eqb r.depth n) _ ∙ ap (eqb r.depth n &&◌) (ap (λ t. is_eq (ordering_of t)) (words_order k j v g) ∙ one (order k j))
     go (in_list i) g = narrowed (eqb r.depth n) false
 
 pub element_tells : (n e : ℕ) → Tells (want_element n e) (is_id e)
 unfolding is_sought
-element_tells n e r h = rw (depth_in_lem r h, side_in_lem r h) (go r.spot)
+element_tells n e r h = rw (depth_in_lem r h, hangs_in_lem r h) (go r.spot)
   where
-    go : (p : Spot) → cond (eqb r.depth n) (cond (eqb (side p) 0) false (eqb e (key_in (spot_words p)).hi)) false
+    go : (p : Spot) → cond (eqb r.depth n) (meant A.Element (hangs p) (element_key e) (key_in (spot_words p))) false
         ≡ eqb r.depth n && is_id e p
     go (in_map j) = narrowed (eqb r.depth n) false
     go (in_list i) = narrowed (eqb r.depth n) (eqb e i)

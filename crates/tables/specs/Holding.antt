@@ -9,9 +9,12 @@ use Rattle.meaning.specs.Members.{All, Ascending, own, id_of_value}
 use Rattle.meaning.specs.Load.{marks_in, values_in}
 use Rattle.meaning.specs.Sheet.{Row}
 use Rattle.rows.specs.Blocks.{at, map_row, list_row}
-use Rattle.tables.specs.Words.{heads_of, keys_of, marks_of, values_of, pad, Tables}
+use Rattle.tables.specs.Words.{heads_of, keys_of, marks_of, values_of, pad}
+use Rattle.tables.specs.declared.Tables.{Tables}
 use Rattle.tables.specs.Finds.{GoodSpot}
 use Rattle.tables.specs.declared.Counts.{Counts}
+use Rattle.tables.specs.declared.Side.{Side}
+use Rattle.tables.specs.declared.Side.TheVariants as S
 use Rattle.meaning.specs.Sheet.{Spot}
 
 -- words in each table
@@ -67,9 +70,9 @@ abbrev pub four : List ℕ → List ℕ → List ℕ → List ℕ → Tables
 four h k m v = record { heads = h; keys = k; marks = m; values = v }
 
 -- the flag of a branch: of the list, or of the map
-abbrev pub flag_row : Bool → Row → Row
-flag_row true r = list_row r
-flag_row false r = map_row r
+abbrev pub flag_row : Side → Row → Row
+flag_row S.List r = list_row r
+flag_row S.Map r = map_row r
 
 -- whether the rows begin with the one that is meant
 abbrev pub begins : ℕ → (Spot → Bool) → List Row → Bool

@@ -1,5 +1,6 @@
 -- What contracts and proofs cite of `tables`, a file a subject.
 pub mod Words
+pub mod Either
 pub mod Heads
 pub mod Seek
 pub mod Finds

@@ -11,7 +11,8 @@ use Rattle.meaning.specs.Sound.{SoundPlace, SoundChildren, SoundElements, Sound}
 use Rattle.theorems.specs.Rows.{rows_once}
 use Rattle.readers.specs.Order.{words_once}
 use Rattle.tables.specs.Words.{bit, side, head_word, map_in, list_in, depth_in, side_in, marks_at, values_at, spot_words}
-use Rattle.tables.specs.Words.{each_value, heads_of, keys_of, marks_of, values_of, pad, Tables}
+use Rattle.tables.specs.Words.{each_value, heads_of, keys_of, marks_of, values_of, pad}
+use Rattle.tables.specs.declared.Tables.{Tables}
 use Rattle.tables.specs.Finds.{GoodSpot, Narrow, AllNarrow, bit_small, side_small, depth_in_lem, side_in_lem, marks_in_lem, values_in_lem}
 use Rattle.tables.specs.Standing.{three_words, heads-length, keys_length}
 use Rattle.tables.specs.Holding.{heads_room, keys_room, marks_room, values_room, Holds}

@@ -1,6 +1,6 @@
 -- Tables that hold rows, in parts: the words of a row stand behind those of the rows before it, and before those of the rows behind it.
 -- Assumes nothing.
-use Rattle.std.specs.Prelude.{ℕ, ◌+◌, ◌*◌, ◌-◌, ◌<◌, ◌≡◌, refl, true, false, pos, negsuc, length}
+use Rattle.std.specs.Prelude.{ℕ, ◌+◌, ◌*◌, ◌<◌, ◌≡◌, refl, true, false, pos, negsuc, length}
 use Rattle.std.proofs.Common.{arith, sym, ◌∙◌, length-append}
 use Rattle.std.proofs.Math.Path.{ap}
 use mathlib.Core.List.{List, [], ◌∷◌, ◌++◌, append_assoc}
@@ -10,7 +10,8 @@ use Rattle.meaning.specs.Load.{marks_in, values_in}
 use Rattle.meaning.specs.Sheet.{Row}
 use Rattle.words.proofs.Padded.{pad-length}
 use Rattle.readers.specs.Words.{plain_words}
-use Rattle.tables.specs.Words.{value_words, each_value, head_word, Tables}
+use Rattle.tables.specs.Words.{value_words, each_value, head_word}
+use Rattle.tables.specs.declared.Tables.{Tables}
 use Rattle.tables.specs.Words.{heads_of, keys_of, marks_of, values_of}
 use Rattle.tables.specs.Finds.{Narrow, AllNarrow, next_row, after}
 use Rattle.tables.specs.Standing.{first, behind, heads-append, heads-length, keys_length}

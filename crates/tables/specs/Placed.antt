@@ -4,7 +4,8 @@
 use Rattle.std.specs.Prelude.{◌+◌, ◌≤◌, ◌<◌, ◌≡◌, List, ◌∷◌, ◌++◌, length, get_or}
 use Rattle.std.proofs.Common.{arith}
 use Rattle.meaning.specs.Sheet.{Row}
-use Rattle.tables.specs.Words.{head_word, marks_at, values_at, Tables}
+use Rattle.tables.specs.Words.{head_word, marks_at, values_at}
+use Rattle.tables.specs.declared.Tables.{Tables}
 use Rattle.tables.specs.Finds.{bit_small, side_small, marks_in_lem, values_in_lem}
 use Rattle.tables.specs.Standing.{behind}
 use Rattle.tables.specs.Holding.{Good, Holds}

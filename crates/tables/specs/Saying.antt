@@ -1,6 +1,6 @@
 -- The words of a plain value say it: `plain_once`; and so do those of some values: `each_once`.
 -- Assumes nothing.
-use Rattle.std.specs.Prelude.{ℕ, zero, suc, ◌+◌, ◌*◌, ◌≤◌, ◌≡◌, refl, true, false, pos, negsuc, length, drop}
+use Rattle.std.specs.Prelude.{ℕ, zero, suc, ◌*◌, ◌≤◌, ◌≡◌, refl, true, false, pos, negsuc, length, drop}
 use Rattle.std.proofs.Common.{arith, sym, ap, ◌∙◌, length-drop}
 use mathlib.Core.List.{List, [], ◌∷◌, ◌++◌, head-eq_of_cons-eq, tail-eq_of_cons-eq}
 use Rattle.meaning.specs.Places.{Plain, null, bool, integer, string, Value}

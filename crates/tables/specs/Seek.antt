@@ -1,8 +1,11 @@
 -- Searching the rows on their words: which rows are gone over, where the search stops, and whether what was looked for stands there.
 -- Assumes nothing: these are definitions.
 use Rattle.std.specs.Prelude.{ℕ, ◌+◌, ◌*◌, ◌≤◌, ◌≡◌, Bool, true, false, cond, not, List, [], ◌∷◌, ltb, eqb, length, get_or, take, drop}
+use Rattle.std.specs.declared.cmp.Ordering.{Ordering}
+use Rattle.std.specs.declared.cmp.Ordering.TheVariants as O
+use Rattle.std.specs.Ordering.{is_gt, is_eq}
 use Rattle.meaning.specs.Places.{Turn, before, equal, beyond, order}
-use Rattle.readers.specs.Reads.{either}
+use Rattle.tables.specs.Either.{either}
 use Rattle.readers.specs.Hex.{words_in}
 use Rattle.readers.specs.declared.Key.{Key}
 use Rattle.tables.specs.Words.{marks_at, values_at}
@@ -12,41 +15,50 @@ use Rattle.tables.specs.declared.Aim.{Aim}
 use Rattle.tables.specs.declared.Aim.TheVariants as A
 use Rattle.tables.specs.declared.Position.{Position}
 use Rattle.tables.specs.declared.Search.{Search}
+use Rattle.tables.specs.declared.Side.{Side}
+use Rattle.tables.specs.declared.Side.TheVariants as S
 
 -- what is looked for, beside the key k
 abbrev pub turn : Key → Key → Turn
 turn w k = order (words_in w) (words_in k)
 
-abbrev pub turn_number : Turn → ℕ
-turn_number before = 0
-turn_number equal = 1
-turn_number beyond = 2
+-- the turn as std's order
+abbrev pub ordering_of : Turn → Ordering
+ordering_of before = O.Less
+ordering_of equal = O.Equal
+ordering_of beyond = O.Greater
 
--- Of the rows of the depth that is looked at, those that are gone over, by what is looked for: under a map (side 0) or a list.
-abbrev pub passing : Aim → Key → ℕ → Key → Bool
-passing A.Key w s k = cond (eqb s 0) (eqb (turn_number (turn w k)) 2) false
-passing A.Element w s k = cond (eqb s 0) true (not (eqb w.hi k.hi))
-passing A.Seat w s k = cond (eqb s 0) false (ltb w.hi k.hi)
-passing A.FirstSeat w s k = cond (eqb s 0) true (ltb w.hi k.hi)
-passing A.End w s k = false
+-- Of the rows of the depth that is looked at, those that are gone over, by what is looked for: under a map or a list.
+abbrev pub passing : Aim → Side → Key → Key → Bool
+passing A.Key S.Map w k = is_gt (ordering_of (turn w k))
+passing A.Key S.List w k = false
+passing A.Element S.Map w k = true
+passing A.Element S.List w k = not (eqb w.hi k.hi)
+passing A.Seat S.Map w k = false
+passing A.Seat S.List w k = ltb w.hi k.hi
+passing A.FirstSeat S.Map w k = true
+passing A.FirstSeat S.List w k = ltb w.hi k.hi
+passing A.End s w k = false
 
-unfoldable pub passes_one : Search → ℕ → Key → Bool
-passes_one w s k = passing w.aim w.key s k
+unfoldable pub passes_one : Search → Side → Key → Bool
+passes_one w s k = passing w.aim s w.key k
 
 -- deeper rows hang under one that was gone over
 unfoldable pub goes_over : Search → Head → Key → Bool
 goes_over w h k = cond (ltb w.depth h.depth) true (cond (eqb h.depth w.depth) (passes_one w h.side k) false)
 
 -- the row that is looked for: a key, or an element
-abbrev pub meant : Aim → Key → ℕ → Key → Bool
-meant A.Key w s k = cond (eqb s 0) (eqb (turn_number (turn w k)) 1) false
-meant A.Element w s k = cond (eqb s 0) false (eqb w.hi k.hi)
-meant A.Seat w s k = false
-meant A.FirstSeat w s k = false
-meant A.End w s k = false
+abbrev pub meant : Aim → Side → Key → Key → Bool
+meant A.Key S.Map w k = is_eq (ordering_of (turn w k))
+meant A.Key S.List w k = false
+meant A.Element S.Map w k = false
+meant A.Element S.List w k = eqb w.hi k.hi
+meant A.Seat s w k = false
+meant A.FirstSeat s w k = false
+meant A.End s w k = false
 
 unfoldable pub is_sought : Search → Head → Key → Bool
-is_sought w h k = cond (eqb h.depth w.depth) (meant w.aim w.key h.side k) false
+is_sought w h k = cond (eqb h.depth w.depth) (meant w.aim h.side w.key k) false
 
 -- one row further
 abbrev pub further : Position → ℕ → Position

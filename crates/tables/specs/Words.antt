@@ -9,6 +9,9 @@ use Rattle.meaning.specs.Places.{Value}
 use Rattle.meaning.specs.Sheet.{Spot, in_map, in_list, Row}
 use Rattle.words.specs.Words as words
 use Rattle.readers.specs.Words.{key_words, plain_words}
+use Rattle.tables.specs.declared.Tables.{Tables}
+use Rattle.tables.specs.declared.Side.{Side}
+use Rattle.tables.specs.declared.Side.TheVariants as S
 
 abbrev pub bit : Bool → ℕ
 bit true = 1
@@ -17,6 +20,15 @@ bit false = 0
 abbrev pub side : Spot → ℕ
 side (in_map k) = 0
 side (in_list i) = 1
+
+-- the branch that a row hangs in, and the side's number in a head's word
+abbrev pub hangs : Spot → Side
+hangs (in_map k) = S.Map
+hangs (in_list i) = S.List
+
+abbrev pub side_number : Side → ℕ
+side_number S.Map = 0
+side_number S.List = 1
 
 -- depth, side, the flags of map and list, the number of marks, the number of values
 abbrev pub head_word : Row → ℕ
@@ -75,13 +87,6 @@ values_of (r ∷ rs) = each_value r.values ++ values_of rs
 -- live words, then zeros
 abbrev pub pad : ℕ → List ℕ → List ℕ
 pad n live = words.pad n live
-
--- the four tables, whatever they hold
-pub record Tables : Type 0 where
-  pub heads : List ℕ
-  pub keys : List ℕ
-  pub marks : List ℕ
-  pub values : List ℕ
 
 -- the tables that hold some rows, of the lengths of T
 unfoldable pub storing : Tables → List Row → Tables

@@ -4,7 +4,7 @@
 #![tactic(auto)]
 
 ghost use Rattle.std.specs.Prelude.{◌≡◌, ◌+◌, ◌*◌, ◌-◌, ◌≤◌, ◌<◌, length, get_or};
-ghost use Rattle.tables.specs.Seek.{turn, turn_number, passes_one, goes_over, is_sought, Passes, Searches, holds_if, sought};
+ghost use Rattle.tables.specs.Seek.{turn, passes_one, goes_over, is_sought, Passes, Searches, holds_if, sought};
 ghost use Rattle.tables.specs.Words.{marks_at};
 ghost use Rattle.tables.specs.Heads.{head_in, new_head, with_flag, with_mark, with_counts, key_at, value_at};
 ghost use Rattle.tables.specs.Holding.{within_tables};
@@ -29,8 +29,20 @@ pub const MARKS_ROOM: usize = 1032;
 
 pub const VALUES_ROOM: usize = 257;
 
+// The words of a value.
+pub const VALUE_WORDS: usize = 6;
+
 // The deepest depth of a place.
 pub const DEEPEST: u64 = 8;
+
+// The four tables of a document, in lent memory.
+#[derive(Drop)]
+pub struct Tables {
+    pub heads: [u64; HEADS],
+    pub keys: [u64; KEYS],
+    pub marks: [u64; MARKS],
+    pub values: [u64; VALUES],
+}
 
 // A place in the tables: a row, and how many marks and values the rows before it have.
 #[derive(Clone, Copy)]
@@ -40,22 +52,32 @@ pub struct Position {
     pub value: usize,
 }
 
-// What a row's head says: its depth, the parent's branch that it hangs in (`MAP` or `LIST`), its flags, how many marks and values it has.
+// The place of the first row.
+pub const START: Position = Position {
+    row: 0,
+    mark: 0,
+    value: 0,
+};
+
+// The branch of its parent that a row hangs in.
+#[derive(Clone, Copy, PartialEq, Eq)]
+pub enum Side {
+    Map,
+    List,
+}
+
+// What a row's head says: its depth, the parent's branch that it hangs in, its flags, how many marks and values it has.
 #[derive(Clone, Copy)]
 pub struct Head {
     pub depth: u64,
-    pub side: u64,
+    pub side: Side,
     pub map: bool,
     pub list: bool,
     pub marks: usize,
     pub values: usize,
 }
 
-pub const MAP: u64 = 0;
-
-pub const LIST: u64 = 1;
-
-// A value of a row, as the table holds it: its id, the number of its kind, and four words.
+// A value of a row, as the table holds it: its id, the number of its kind, and four words. A number and no enum: it is the table's word.
 #[derive(Clone, Copy)]
 pub struct Value {
     pub id: u64,
@@ -95,29 +117,28 @@ pub struct Search {
 pub fn within(c: Counts) -> bool
     ensures { result ≡ within_tables c }
 {
-    if c.rows > ROWS_ROOM {
-        return false;
-    }
-    if c.marks > MARKS_ROOM {
-        return false;
-    }
-    c.values <= VALUES_ROOM
+    c.rows <= ROWS_ROOM && c.marks <= MARKS_ROOM && c.values <= VALUES_ROOM
 }
 
 // What a table has at a place, and 0 behind its end.
 pub fn word(t: &[u64], i: usize) -> u64
     ensures { result ≡ get_or t.now i 0 }
 {
-    if i < t.len() { t[i] } else { 0 }
+    t.get(i).copied().unwrap_or(0)
 }
 
 // What a head's word says.
 pub fn head_in(h: u64) -> Head
     ensures { result ≡ head_in h }
 {
+    let side = if h / 16 % 2 == 0 {
+        Side::Map
+    } else {
+        Side::List
+    };
     Head {
         depth: h % 16,
-        side: h / 16 % 2,
+        side,
         map: h / 32 % 2 == 1,
         list: h / 64 % 2 == 1,
         marks: (h / 128 % 2048) as usize,
@@ -133,27 +154,24 @@ pub fn head_at(heads: &[u64], row: usize) -> Head
 }
 
 // The head's word of a row without flags, marks and values.
-pub fn new_head(depth: u64, side: u64) -> u64
-    requires { (depth < 16) × (side < 2) }
+pub fn new_head(depth: u64, side: Side) -> u64
+    requires { depth < 16 }
     ensures { result ≡ new_head depth side }
 {
-    depth + 16 * side
+    match side {
+        Side::Map => depth,
+        Side::List => depth + 16,
+    }
 }
 
-// A head's word with the flag of the list, or of the map.
-pub fn with_flag(h: u64, list: bool) -> u64
-    ensures { result ≡ with_flag list h }
+// A head's word with the flag of a branch.
+pub fn with_flag(h: u64, side: Side) -> u64
+    ensures { result ≡ with_flag side h }
 {
-    if list {
-        if h / 64 % 2 == 1 {
-            return h;
-        }
-        return h + 64;
+    match side {
+        Side::Map => { if h / 32 % 2 == 1 { h } else { h + 32 } }
+        Side::List => { if h / 64 % 2 == 1 { h } else { h + 64 } }
     }
-    if h / 32 % 2 == 1 {
-        return h;
-    }
-    h + 32
 }
 
 // A head's word with a mark more.
@@ -190,7 +208,7 @@ pub fn value_at(values: &[u64], i: usize) -> Value
     requires { i < 1048576 }
     ensures { result ≡ value_at values.now i }
 {
-    let at = 6 * i;
+    let at = VALUE_WORDS * i;
     Value {
         id: word(values, at),
         kind: word(values, at + 1),
@@ -207,13 +225,7 @@ pub fn value_at(values: &[u64], i: usize) -> Value
 pub fn next_row(heads: &[u64], s: Position) -> Position
     ensures { Passes heads.now s result }
 {
-    if s.row > 1024 {
-        return s;
-    }
-    if s.mark > 2097152 {
-        return s;
-    }
-    if s.value > 524288 {
+    if s.row > 1024 || s.mark > 2097152 || s.value > 524288 {
         return s;
     }
     let h = head_at(heads, s.row);
@@ -225,68 +237,33 @@ pub fn next_row(heads: &[u64], s: Position) -> Position
 }
 
 // The search for a key or an element among the rows of depth n.
+#[tactic(auto, unfolding(crate::specs::Wants::search_of))]
 pub fn search_of(n: u64, k: Key) -> Search
     ensures { result ≡ search_of n k }
 {
-    if k.len > LONGEST {
-        return Search {
-            aim: Aim::Element,
-            depth: n,
-            key: k,
-        };
-    }
+    let aim = if k.len > LONGEST {
+        Aim::Element
+    } else {
+        Aim::Key
+    };
     Search {
-        aim: Aim::Key,
+        aim,
         depth: n,
         key: k,
     }
 }
 
-// The key that is looked for, beside a row's: before it (0), the same (1), or beyond it (2).
-#[tactic(auto, unfolding(meaning::specs::Places::order))]
-fn turn_of(w: Key, k: Key) -> u64
-    ensures { result ≡ turn_number (turn w k) }
-{
-    if w.hi < k.hi {
-        return 0;
-    }
-    if k.hi < w.hi {
-        return 2;
-    }
-    if w.lo < k.lo {
-        return 0;
-    }
-    if k.lo < w.lo {
-        return 2;
-    }
-    if w.len < k.len {
-        return 0;
-    }
-    if k.len < w.len {
-        return 2;
-    }
-    1
-}
-
 // Of the rows of the depth that is looked at, those that are gone over.
 #[tactic(auto, unfolding(crate::specs::Seek::passes_one))]
-fn passes_one(w: Search, side: u64, k: Key) -> bool
+fn passes_one(w: Search, side: Side, k: Key) -> bool
     ensures { result ≡ passes_one w side k }
 {
-    let aim = w.aim;
-    let key = w.key;
-    match aim {
-        Aim::Key => {
-            if side == MAP {
-                turn_of(key, k) == 2
-            } else {
-                false
-            }
-        }
-        Aim::Element => { if side == MAP { true } else { key.hi != k.hi } }
-        Aim::Seat => { if side == MAP { false } else { key.hi < k.hi } }
-        Aim::FirstSeat => { if side == MAP { true } else { key.hi < k.hi } }
-        Aim::End => false,
+    match (w.aim, side) {
+        (Aim::Key, Side::Map) => w.key > k,
+        (Aim::Element, Side::List) => w.key.hi != k.hi,
+        (Aim::Seat | Aim::FirstSeat, Side::List) => w.key.hi < k.hi,
+        (Aim::Element | Aim::FirstSeat, Side::Map) => true,
+        _ => false,
     }
 }
 
@@ -294,14 +271,7 @@ fn passes_one(w: Search, side: u64, k: Key) -> bool
 fn goes_over(w: Search, h: Head, k: Key) -> bool
     ensures { result ≡ goes_over w h k }
 {
-    let d = h.depth;
-    if w.depth < d {
-        return true;
-    }
-    if d == w.depth {
-        return passes_one(w, h.side, k);
-    }
-    false
+    w.depth < h.depth || h.depth == w.depth && passes_one(w, h.side, k)
 }
 
 // Whether a row is the one that is looked for.
@@ -309,39 +279,28 @@ fn goes_over(w: Search, h: Head, k: Key) -> bool
 pub fn is_sought(w: Search, h: Head, k: Key) -> bool
     ensures { result ≡ is_sought w h k }
 {
-    if h.depth != w.depth {
-        return false;
-    }
-    let aim = w.aim;
-    let key = w.key;
-    match aim {
-        Aim::Key => {
-            if h.side == MAP {
-                turn_of(key, k) == 1
-            } else {
-                false
-            }
+    h.depth == w.depth
+        && match (w.aim, h.side) {
+            (Aim::Key, Side::Map) => w.key == k,
+            (Aim::Element, Side::List) => w.key.hi == k.hi,
+            _ => false,
         }
-        Aim::Element => { if h.side == MAP { false } else { key.hi == k.hi } }
-        Aim::Seat => false,
-        Aim::FirstSeat => false,
-        Aim::End => false,
-    }
 }
 
-// Where the search from a place on stops: before the first row that isn't gone over.
-pub fn seek(heads: &[u64], keys: &[u64], rows: usize, from: Position, w: Search) -> Position
-    requires { Searches heads.now keys.now rows from }
-    ensures { result ≡ sought w heads.now keys.now rows from }
+// Where the search from a place on stops: before the first row that isn't gone over. The loop stays a `while`: its place moves on by what a
+// row's head counts, so no range or chain gives its steps.
+fn seek(t: &Tables, rows: usize, from: Position, w: Search) -> Position
+    requires { Searches t.now.heads t.now.keys rows from }
+    ensures { result ≡ sought w t.now.heads t.now.keys rows from }
 {
     let mut at = from;
     while at.row < rows {
         let row = at.row;
-        let h = head_in(heads[row]);
+        let h = head_in(t.heads[row]);
         let k = Key {
-            hi: keys[3 * row],
-            lo: keys[3 * row + 1],
-            len: keys[3 * row + 2],
+            hi: t.keys[3 * row],
+            lo: t.keys[3 * row + 1],
+            len: t.keys[3 * row + 2],
         };
         if !goes_over(w, h, k) {
             return at;
@@ -356,55 +315,29 @@ pub fn seek(heads: &[u64], keys: &[u64], rows: usize, from: Position, w: Search)
 }
 
 // Whether a search may begin there: the rows are in the tables, and the place is one of them or behind the last.
-fn may_begin(heads: &[u64], keys: &[u64], rows: usize, from: Position) -> bool
-    ensures { holds_if result (Searches heads.now keys.now rows from) }
+fn may_begin(t: &Tables, rows: usize, from: Position) -> bool
+    ensures { holds_if result (Searches t.now.heads t.now.keys rows from) }
 {
-    if rows > 1024 {
-        return false;
-    }
-    if from.row > rows {
-        return false;
-    }
-    if rows > heads.len() {
-        return false;
-    }
-    if 3 * rows > keys.len() {
-        return false;
-    }
-    if from.mark > 2048 * from.row {
-        return false;
-    }
-    if from.value > 512 * from.row {
-        return false;
-    }
-    true
+    rows <= ROWS_ROOM
+        && from.row <= rows
+        && from.mark <= 2048 * from.row
+        && from.value <= 512 * from.row
 }
 
 // Where the search from a place on stops, in tables that hold rows; in others anywhere.
-pub fn find(heads: &[u64], keys: &[u64], rows: usize, from: Position, w: Search) -> Position
-    ensures { FindsIn heads.now keys.now rows from w result }
+pub fn find(t: &Tables, rows: usize, from: Position, w: Search) -> Position
+    ensures { FindsIn t.now.heads t.now.keys rows from w result }
 {
-    if may_begin(heads, keys, rows, from) {
-        return seek(heads, keys, rows, from, w);
+    if may_begin(t, rows, from) {
+        seek(t, rows, from, w)
+    } else {
+        from
     }
-    from
 }
 
 // Whether the row at a place is the one that is looked for.
-pub fn is_at(heads: &[u64], keys: &[u64], rows: usize, at: usize, w: Search) -> bool
-    ensures { Knows heads.now keys.now rows at w result }
+pub fn is_at(t: &Tables, rows: usize, at: usize, w: Search) -> bool
+    ensures { Knows t.now.heads t.now.keys rows at w result }
 {
-    if at >= rows {
-        return false;
-    }
-    if at >= 1024 {
-        return false;
-    }
-    if at >= heads.len() {
-        return false;
-    }
-    if 3 * at + 2 >= keys.len() {
-        return false;
-    }
-    is_sought(w, head_at(heads, at), key_at(keys, at))
+    at < rows && at < ROWS_ROOM && is_sought(w, head_at(&t.heads, at), key_at(&t.keys, at))
 }

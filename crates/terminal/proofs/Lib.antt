@@ -1,3 +1,3 @@
 -- The laws that proofs of `terminal` cite, a file a subject.
 pub mod Receiving
-pub mod New
+pub mod Empty

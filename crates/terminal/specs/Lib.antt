@@ -1,3 +1,2 @@
 -- What contracts and proofs cite of `terminal`, a file a subject.
-pub mod Refusals
 pub mod Promises

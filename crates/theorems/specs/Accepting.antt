@@ -13,7 +13,7 @@ use Rattle.meaning.specs.Load.{begin, reading, times, marks_in, values_in, Seen,
 use Rattle.meaning.specs.Sound.{Sound, SoundChildren}
 use Rattle.meaning.specs.Receive.{Terminal}
 use Rattle.meaning.specs.Promises.{Loads}
-use Rattle.meaning.specs.declared.Loaded.{Loaded as Answered}
+use Rattle.meaning.specs.Answers.{Loaded as Answered}
 use Rattle.theorems.specs.Invariant.{Steady, steady_loads}
 use Rattle.theorems.specs.Decide.{and_left, and_right}
 use Rattle.theorems.specs.Rows.{rows_once}

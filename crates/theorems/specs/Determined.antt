@@ -15,11 +15,11 @@ use Rattle.meaning.specs.Stream.{messages}
 use Rattle.meaning.specs.Promises.{Says, says, says_nothing, received, Receives, Lines, ValidLines, lines_of, edited, Edits, Saves}
 use Rattle.meaning.specs.Promises.{SheetSays, accepted, broken, loaded, Loads}
 use Rattle.meaning.specs.Promises.{asked, Reads, ReadsKeys, ReadsValues, ReadsElement, ReceivesAll, Merges}
-use Rattle.meaning.specs.declared.Receipt.{Receipt}
-use Rattle.meaning.specs.declared.Edited.{Edited}
-use Rattle.meaning.specs.declared.Saved.{Saved}
-use Rattle.meaning.specs.declared.Loaded.{Loaded}
-use Rattle.meaning.specs.declared.Reading.{Reading}
+use Rattle.meaning.specs.Answers.{Receipt}
+use Rattle.meaning.specs.Answers.{Edited}
+use Rattle.meaning.specs.Answers.{Saved}
+use Rattle.meaning.specs.Answers.{Loaded}
+use Rattle.meaning.specs.Answers.{Reading}
 use Rattle.theorems.specs.Numbered.{receipt_settled, edited_settled, saved_settled, loaded_settled, reading_settled}
 use Rattle.theorems.specs.Spelling.{message_once, edit_once, place_way_once, element_way_once, keys_way_once}
 use Rattle.theorems.specs.LoadVerdict.{accepted_once, accepted_not_broken, broken_once}

@@ -18,9 +18,9 @@ use Rattle.meaning.specs.Message.{message}
 use Rattle.meaning.specs.Load.{Accepted}
 use Rattle.meaning.specs.Promises.{Says, says, says_nothing, received, Receives, ReceivesAll, ValidLines, lines_of, edited, Edits}
 use Rattle.meaning.specs.Promises.{SheetSays, accepted, broken, loaded, Loads}
-use Rattle.meaning.specs.declared.Receipt.{Receipt}
-use Rattle.meaning.specs.declared.Edited.{Edited}
-use Rattle.meaning.specs.declared.Loaded.{Loaded}
+use Rattle.meaning.specs.Answers.{Receipt}
+use Rattle.meaning.specs.Answers.{Edited}
+use Rattle.meaning.specs.Answers.{Loaded}
 use Rattle.theorems.specs.Members.{all_keep, all_put, keep_length, put_length, asc_keep, asc_put}
 use Rattle.theorems.specs.Tests.{living}
 use Rattle.theorems.specs.Edits.{edit_valid, edit_new}

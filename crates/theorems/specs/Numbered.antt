@@ -1,19 +1,14 @@
 -- The numbers of document 01 settle an answer: two cases with the same number and values are the same case.
 -- Assumes nothing.
-use Rattle.std.specs.Prelude.{◌≡◌, refl}
+use Rattle.std.specs.Prelude.{◌≡◌, refl, Ok, Err}
 use Rattle.std.proofs.Common.{sym, ap, ◌∙◌}
 use Rattle.meaning.specs.Answers.{Answer, receipt_answer, edited_answer, saved_answer, loaded_answer, reading_answer}
+use Rattle.meaning.specs.Answers.{Receipt, Edited, Saved, Loaded, Reading}
 use Rattle.meaning.specs.Answers.{receipt_of, edited_of, saved_of, loaded_of, reading_of}
-use Rattle.meaning.specs.declared.Receipt.{Receipt}
-use Rattle.meaning.specs.declared.Receipt.TheVariants as R
-use Rattle.meaning.specs.declared.Edited.{Edited}
-use Rattle.meaning.specs.declared.Edited.TheVariants as E
-use Rattle.meaning.specs.declared.Saved.{Saved}
-use Rattle.meaning.specs.declared.Saved.TheVariants as S
-use Rattle.meaning.specs.declared.Loaded.{Loaded}
-use Rattle.meaning.specs.declared.Loaded.TheVariants as L
-use Rattle.meaning.specs.declared.Reading.{Reading}
-use Rattle.meaning.specs.declared.Reading.TheVariants as G
+use Rattle.meaning.specs.declared.Received.TheVariants as D
+use Rattle.meaning.specs.declared.ReceiveError.TheVariants as R
+use Rattle.meaning.specs.declared.EditError.TheVariants as E
+use Rattle.meaning.specs.declared.ReadError.TheVariants as G
 
 -- what can be told from its image is settled by it
 settled : {A : Type 0} (f : A → Answer) (of : Answer → A) → ((a : A) → of (f a) ≡ a) → (a b : A) → f a ≡ f b → a ≡ b
@@ -21,44 +16,44 @@ settled f of back a b e = sym (back a) ∙ (ap of e ∙ back b)
 
 receipt_back : (a : Receipt) → receipt_of (receipt_answer a) ≡ a
 unfolding receipt_of
-receipt_back (R.Applied a d) = refl
-receipt_back R.Layout = refl
-receipt_back R.Counter = refl
-receipt_back R.Repeat = refl
-receipt_back R.OwnDeps = refl
-receipt_back R.Waiting = refl
-receipt_back R.WaitsAlready = refl
-receipt_back R.WaitingFull = refl
-receipt_back R.NoElement = refl
-receipt_back R.NotSmaller = refl
-receipt_back R.NoRoom = refl
+receipt_back (Ok (D.Applied a d)) = refl
+receipt_back (Err R.Layout) = refl
+receipt_back (Err R.Counter) = refl
+receipt_back (Err R.Repeat) = refl
+receipt_back (Err R.OwnDeps) = refl
+receipt_back (Ok D.Waiting) = refl
+receipt_back (Err R.WaitsAlready) = refl
+receipt_back (Err R.WaitingFull) = refl
+receipt_back (Err R.NoElement) = refl
+receipt_back (Err R.NotSmaller) = refl
+receipt_back (Err R.NoRoom) = refl
 
 edited-back : (a : Edited) → edited_of (edited_answer a) ≡ a
 unfolding edited_of
-edited-back (E.Applied a d w) = refl
-edited-back E.Layout = refl
-edited-back E.NoElement = refl
-edited-back E.NotSmaller = refl
-edited-back E.NoRoom = refl
-edited-back E.LastCounter = refl
-edited-back (E.ShortBuffer n) = refl
+edited-back (Ok m) = refl
+edited-back (Err E.Layout) = refl
+edited-back (Err E.NoElement) = refl
+edited-back (Err E.NotSmaller) = refl
+edited-back (Err E.NoRoom) = refl
+edited-back (Err E.LastCounter) = refl
+edited-back (Err (E.ShortBuffer n)) = refl
 
 saved_back : (a : Saved) → saved_of (saved_answer a) ≡ a
 unfolding saved_of
-saved_back (S.Written w) = refl
-saved_back (S.ShortBuffer n) = refl
+saved_back (Ok w) = refl
+saved_back (Err b) = refl
 
 loaded-back : (a : Loaded) → loaded_of (loaded_answer a) ≡ a
 unfolding loaded_of
-loaded-back L.Taken = refl
-loaded-back (L.BadLine n) = refl
+loaded-back (Ok u) = refl
+loaded-back (Err b) = refl
 
 reading_back : (a : Reading) → reading_of (reading_answer a) ≡ a
 unfolding reading_of
-reading_back (G.Written w) = refl
-reading_back G.Layout = refl
-reading_back G.NotThere = refl
-reading_back (G.ShortBuffer n) = refl
+reading_back (Ok w) = refl
+reading_back (Err G.Layout) = refl
+reading_back (Err G.NotThere) = refl
+reading_back (Err (G.ShortBuffer n)) = refl
 
 pub receipt_settled : (a b : Receipt) → receipt_answer a ≡ receipt_answer b → a ≡ b
 receipt_settled = settled receipt_answer receipt_of receipt_back

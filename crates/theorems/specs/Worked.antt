@@ -1,7 +1,7 @@
 -- Worked refusals and a load, beside the tables of `meaning`: 1 and 12 speak of all texts, so they are shown by argument and not by
 -- computing.
 -- Assumes nothing.
-use Rattle.std.specs.Prelude.{ℕ, ◌≤◌, ◌≡◌, refl}
+use Rattle.std.specs.Prelude.{ℕ, ◌≤◌, ◌≡◌, refl, Ok, Err}
 use Rattle.std.proofs.Common.{arith, subst}
 use mathlib.Core.List.{List, [], ◌∷◌, ◌++◌, head-eq_of_cons-eq, tail-eq_of_cons-eq, nil≢cons}
 use Rattle.meaning.specs.Ascii.{ascii, page}
@@ -17,15 +17,14 @@ use Rattle.meaning.specs.Answers.{Answer}
 use Rattle.meaning.specs.Promises.{says_nothing, accepted, broken, Receives, Edits, Loads}
 use Rattle.meaning.specs.Examples.{Example, Answered, Holds, sheet1}
 use Rattle.meaning.specs.Twelve.{examples}
-use Rattle.meaning.specs.declared.Receipt.TheVariants as R
-use Rattle.meaning.specs.declared.Edited.TheVariants as E
-use Rattle.meaning.specs.declared.Loaded.TheVariants as L
+use Rattle.meaning.specs.declared.ReceiveError.TheVariants as R
+use Rattle.meaning.specs.declared.EditError.TheVariants as E
 use Rattle.theorems.specs.Soundness.{sound_empty}
 use Rattle.theorems.specs.Invariant.{Steady, steady_receives, steady_new}
 use Rattle.theorems.specs.Accepting.{sheet_accepted}
 
 -- 1: no bytes are no message.
-pub nothing_refused : (T : Terminal) → Receives T [] R.Layout T
+pub nothing_refused : (T : Terminal) → Receives T [] (Err R.Layout) T
 unfolding message
 nothing_refused T = record { reads = says_nothing none; answers = refl; leaves = refl }
   where
@@ -33,7 +32,7 @@ nothing_refused T = record { reads = says_nothing none; answers = refl; leaves =
     none o v e = nil≢cons e
 
 -- 1: the device's number is not 1 to 8, whatever the lines say.
-pub device_refused : (T : Terminal) (r : ℕ) (bytes buffer : List ℕ) → (1 ≤ r → r ≤ 8 → ⊥) → Edits T r bytes buffer E.Layout T buffer
+pub device_refused : (T : Terminal) (r : ℕ) (bytes buffer : List ℕ) → (1 ≤ r → r ≤ 8 → ⊥) → Edits T r bytes buffer (Err E.Layout) T buffer
 device_refused T r bytes buffer h =
     record { reads = says_nothing (λ l v e. h v.low v.high); answers = refl; leaves = refl; writes = refl }
 
@@ -65,7 +64,7 @@ no_end (mark_line i) t a e = a
 no_end (value_line v) t a e = a
 no_end (end_line n) t a e = nil≢cons e
 
-pub wrong_end_refused : (T : Terminal) → Loads T (page ("sheet=1" ∷ "seen=0,0,0,0,0,0,0,0" ∷ "end=1" ∷ [])) (L.BadLine 3) T
+pub wrong_end_refused : (T : Terminal) → Loads T (page ("sheet=1" ∷ "seen=0,0,0,0,0,0,0,0" ∷ "end=1" ∷ [])) (Err (record { line = 3 })) T
 unfolding lines_text line_text counters_text comma_text decimal width width_from digits
 wrong_end_refused T = record {
   reads = broken 3 (record {
@@ -81,7 +80,7 @@ wrong_end_refused T = record {
   leaves = refl;
 }
 
-pub no_end_refused : (T : Terminal) → Loads T (page ("sheet=1" ∷ "seen=0,0,0,0,0,0,0,0" ∷ [])) (L.BadLine 3) T
+pub no_end_refused : (T : Terminal) → Loads T (page ("sheet=1" ∷ "seen=0,0,0,0,0,0,0,0" ∷ [])) (Err (record { line = 3 })) T
 unfolding lines_text line_text counters_text comma_text decimal width width_from digits
 no_end_refused T = record {
   reads = broken 3 (record {
@@ -113,7 +112,7 @@ steady_example e h = steady_answered new_terminal e.messages e.answers h.exit h.
 abbrev five : Terminal
 five = examples.0.exit
 
-pub sheet-loaded : (T : Terminal) → Loads T sheet1 L.Taken (record { document = five.document; waiting = [] })
+pub sheet-loaded : (T : Terminal) → Loads T sheet1 (Ok tt) (record { document = five.document; waiting = [] })
 sheet-loaded T =
     let s = steady_example _ examples.0 in
     record {

@@ -3,7 +3,7 @@
 use Prim.Native.Nat.{ℕ, ◌+◌, ◌*◌, ◌-◌, ◌≤◌}
 use native.Mathlib.Omega.{arith}
 use mathlib.Core.Path.{◌≡◌, refl, sym, ap, ◌∙◌}
-use mathlib.Core.List.{List, [], ◌∷◌, ◌++◌}
+use mathlib.Core.List.{List, ◌∷◌, ◌++◌}
 use lib.ListN.{length, set, get_or, drop}
 use Rattle.meaning.specs.Load.{values_in}
 use Rattle.meaning.specs.Members.{id_of_value}
@@ -29,22 +29,10 @@ use Rattle.tables.specs.Rewritten.{counts_word}
 use Rattle.tables.specs.Placed.{placed}
 use Rattle.values.proofs.Values.{among-is, rank_is, value_put}
 
--- the six words that are written
-abbrev pub six : ℕ → ℕ → List ℕ → List ℕ
-six id kind w = id ∷ kind ∷ get_or w 0 0 ∷ get_or w 1 0 ∷ get_or w 2 0 ∷ get_or w 3 0 ∷ []
-
-pub six-is : (id kind : ℕ) (w : List ℕ) → length w ≡ 4 → six id kind w ≡ id ∷ kind ∷ w
-six-is id kind [] h = absurd (omega arith)
-six-is id kind (a ∷ []) h = absurd (omega arith)
-six-is id kind (a ∷ b ∷ []) h = absurd (omega arith)
-six-is id kind (a ∷ b ∷ c ∷ []) h = absurd (omega arith)
-six-is id kind (a ∷ b ∷ c ∷ d ∷ []) h = refl
-six-is id kind (a ∷ b ∷ c ∷ d ∷ e ∷ w) h = absurd (omega arith)
-
 pub adds : (s : Position) (id kind : ℕ) (words : List ℕ) (head : Head) (k w : ℕ) (c : Counts) (h v v₁ v₂ : List ℕ) → 6 * c.values + 6 ≤ length v
     → s.value ≤ c.values → head.values ≤ c.values - s.value → head ≡ head_in (get_or h s.row 0)
     → Ranked head.values (rank_rows 6 id head.values (drop (6 * s.value) v)) k → v₁ ≡ opened (6 * c.values) (6 * s.value + k * 6) 6 v
-    → v₂ ≡ over_at (6 * s.value + k * 6) (six id kind words) v₁
+    → v₂ ≡ over_at (6 * s.value + k * 6) (id ∷ kind ∷ words) v₁
     → w ≡ with_counts (get_or h s.row 0) head.marks (head.values + 1)
     → Adds s id (kind ∷ words) c h v (record { rows = c.rows; marks = c.marks; values = c.values + 1 })
     (set h s.row w) v₂
@@ -61,15 +49,17 @@ adds s id kind words head k w c h v v₁ v₂ a b x y K o z e keys m A R r plain
     let q : k ≡ rank_of id_of_value id r.values = K.is ∙ rw i (rank_is A R r v H.values F f id) in
     let j : length (put id_of_value new r.values) ≡ length r.values + 1 = put_more id_of_value new r.values g u in
     let four : length words ≡ 4 = omega (arith, plain_six plain, ap length d) in
-    let W : six id kind words ≡ value_words new = six-is id kind words four ∙ ap (id ∷◌) (sym d) in
+    let L : 6 ≡ length (id ∷ kind ∷ words) = omega (arith, four) in
+    let W : id ∷ kind ∷ words ≡ value_words new = ap (id ∷◌) (sym d) in
     let G : w ≡ head_word r' =
     e ∙ rw (marks_said y ∙ P.marks, i, ← j, P.head) (counts_word r (omega (arith, P.good.depth)) r.marks r'.values) in
     let M : v₂ ≡ pad values_room (values_of (A ++ r' ∷ R)) =
-    z ∙ (ap (over_at (F + k * 6) (six id kind words)) o
-    ∙ (open_write (6 * c.values) (F + k * 6) v (omega (arith, K.high)) (six id kind words) (omega arith)
+    z ∙ (ap (over_at (F + k * 6) (id ∷ kind ∷ words)) o
+    ∙ (ap (λ n. over_at (F + k * 6) (id ∷ kind ∷ words) (opened (6 * c.values) (F + k * 6) n v)) L
+    ∙ (open_write (6 * c.values) (F + k * 6) v (omega (arith, K.high)) (id ∷ kind ∷ words) (omega arith)
     ∙ (ap (λ j. inserted (6 * c.values) (F + k * 6) j v) W
     ∙ (value_put A R r v H.values F f (6 * c.values) (omega (arith, H.values_are)) new k (F + k * 6) g u q refl (omega arith)
-    ∙ ap (pad values_room) (sym (among-is A r' R)))))) in
+    ∙ ap (pad values_room) (sym (among-is A r' R))))))) in
     rw (G, p.row)
     (changed A r r' R h keys m v m v₂ c _ H refl
     (λ g. record { spot = g.spot; depth = g.depth; marks = g.marks; values = asc_put id_of_value new r.values g.values })

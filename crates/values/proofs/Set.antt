@@ -18,11 +18,10 @@ use Rattle.rows.specs.Blocks.{drop_row, add_row}
 use Rattle.words.specs.Words.{over_at}
 use Rattle.tables.specs.Words.{head_word, value_words, values_at, values_of, pad}
 use Rattle.tables.specs.Holding.{marks_room, values_room, Holds, four}
-use Rattle.tables.specs.Parts.{at-behind, plain_six}
+use Rattle.tables.specs.Parts.{at-behind}
 use Rattle.tables.specs.declared.Counts.{Counts}
 use Rattle.tables.specs.declared.Position.{Position}
 use Rattle.values.specs.Values.{Drops, Adds, One, Sets}
-use Rattle.values.proofs.Added.{six, six-is}
 use Rattle.tables.specs.Changed.{marks_same, values-between, changed}
 use Rattle.tables.specs.Placed.{placed}
 use Rattle.values.proofs.Values.{value_first, value_over}
@@ -51,7 +50,7 @@ unfolding clear_values keep put
 put_alone d new y vs e g = rw (e, g)
 
 pub sets_one : (s : Position) (d : List ℕ) (id kind : ℕ) (words : List ℕ) (c : Counts) (h v v' : List ℕ) → One s d h v
-    → v' ≡ over_at (6 * s.value) (six id kind words) v → Sets s d id (kind ∷ words) c h v c h v'
+    → v' ≡ over_at (6 * s.value) (id ∷ kind ∷ words) v → Sets s d id (kind ∷ words) c h v c h v'
 unfolding Sets clear_values
 sets_one s d id kind words c h v v' O o k m A R r x H t u l w =
     let p = at-behind s A t in
@@ -60,8 +59,7 @@ sets_one s d id kind words c h v v' O o k m A R r x H t u l w =
     let new : Value = record { id = id; val = x } in
     let r' : Row = add_row id x (drop_row d r) in
     let q : r'.values ≡ new ∷ [] = put_alone d new Y.0 r.values Y.1 Y.2 in
-    let long : length words ≡ 4 = omega (arith, plain_six x, ap length w) in
-    let W : six id kind words ≡ value_words new = six-is id kind words long ∙ ap (id ∷◌) (sym w) in
+    let W : id ∷ kind ∷ words ≡ value_words new = ap (id ∷◌) (sym w) in
     let G : get_or h s.row 0 ≡ head_word r' = omega (arith, P.head, ap length Y.1, ap length q) in
     let M : v' ≡ pad values_room (values_of (A ++ r' ∷ R)) =
     o ∙ (ap (λ j. over_at (6 * s.value) j v) W

@@ -3,13 +3,14 @@
 // specs/Values.
 #![tactic(auto)]
 
-ghost use Rattle.std.specs.Prelude.{◌∷◌};
+ghost use Rattle.std.specs.Prelude.{◌+◌, ◌≤◌, ◌≡◌, ◌∷◌, length};
+ghost use Rattle.words.specs.Words.{over_at};
 ghost use Rattle.values.specs.Values.{Drops, Adds, HasOne, Sets};
 
 use counters::covered;
 use meaning::Counters;
-use tables::{Counts, Position, VALUES_ROOM, head_in, with_counts};
-use words::{close, keep_values, open, rank_values, write_words};
+use tables::{Counts, Position, VALUE_WORDS, VALUES_ROOM, Value, head_at, head_in, with_counts};
+use words::{close, keep_rows, lay, open, rank_rows};
 
 // Drops a row's values that d covers.
 fn drop_values(heads: &mut [u64], values: &mut [u64], c: Counts, s: Position, d: Counters) -> Counts
@@ -18,83 +19,71 @@ fn drop_values(heads: &mut [u64], values: &mut [u64], c: Counts, s: Position, d:
     let row = s.row;
     let first = s.value;
     let live = c.values;
-    if row >= heads.len() {
-        return c;
-    }
-    if live > VALUES_ROOM {
-        return c;
-    }
-    if values.len() < 6 * live {
+    if row >= heads.len()
+        || live > VALUES_ROOM
+        || values.len() < VALUE_WORDS * live
+        || first > live
+    {
         return c;
     }
     let h = heads[row];
     let head = head_in(h);
     let n = head.values;
-    if first > live {
-        return c;
-    }
     if n > live - first {
         return c;
     }
-    let from = 6 * first;
-    let end = keep_values(values, from, n, from, d);
-    close(values, 6 * live, from + n * 6, end);
-    let stay = (end - from) / 6;
+    let from = VALUE_WORDS * first;
+    let end = keep_rows::<VALUE_WORDS>(values, from, n, from, d);
+    close(values, VALUE_WORDS * live, from + n * VALUE_WORDS, end);
+    let stay = (end - from) / VALUE_WORDS;
     heads[row] = with_counts(h, head.marks, stay);
     Counts {
-        rows: c.rows,
-        marks: c.marks,
         values: live - (n - stay),
+        ..c
     }
 }
 
-// Puts a value among a row's values, which have none of its id: its kind, and four words.
-fn add_value(
-    heads: &mut [u64],
-    values: &mut [u64],
-    c: Counts,
-    s: Position,
-    id: u64,
-    kind: u64,
-    words: [u64; 4],
-) -> Counts
-    ensures { Adds s id (kind ∷ words) c heads.old values.old result heads.new values.new }
+// Writes a value's words.
+fn write_value(values: &mut [u64], at: usize, v: Value)
+    requires { at + 6 ≤ length values.old }
+    ensures { values.new ≡ over_at at (v.id ∷ v.kind ∷ v.words) values.old }
+{
+    lay(
+        values,
+        at,
+        &[v.id, v.kind, v.words[0], v.words[1], v.words[2], v.words[3]],
+    );
+}
+
+// Puts a value among a row's values, which have none of its id.
+fn add_value(heads: &mut [u64], values: &mut [u64], c: Counts, s: Position, v: Value) -> Counts
+    ensures { Adds s v.id (v.kind ∷ v.words) c heads.old values.old result heads.new values.new }
 {
     let row = s.row;
     let first = s.value;
     let live = c.values;
-    if row >= heads.len() {
-        return c;
-    }
-    if live >= VALUES_ROOM {
-        return c;
-    }
-    if values.len() < 6 * live + 6 {
+    if row >= heads.len()
+        || live >= VALUES_ROOM
+        || values.len() < VALUE_WORDS * live + VALUE_WORDS
+        || first > live
+    {
         return c;
     }
     let h = heads[row];
     let head = head_in(h);
     let n = head.values;
-    if first > live {
-        return c;
-    }
     if n > live - first {
         return c;
     }
-    let from = 6 * first;
-    let k = rank_values(values, from, n, id);
-    let at = from + k * 6;
-    open(values, 6 * live, at, 6);
-    write_words(
-        values,
-        at,
-        [id, kind, words[0], words[1], words[2], words[3]],
-    );
+    let from = VALUE_WORDS * first;
+    let k = rank_rows::<VALUE_WORDS>(values, from, n, v.id);
+    let at = from + k * VALUE_WORDS;
+    open(values, VALUE_WORDS * live, at, VALUE_WORDS);
+    write_value(values, at, v);
     heads[row] = with_counts(h, head.marks, n + 1);
     Counts {
-        rows: c.rows,
-        marks: c.marks,
         values: live + 1,
+        ..c
     }
 }
 
@@ -102,22 +91,14 @@ fn add_value(
 fn has_one(heads: &[u64], values: &[u64], s: Position, d: Counters) -> bool
     ensures { HasOne s d.at heads.now values.now result }
 {
-    let row = s.row;
-    if row >= heads.len() {
-        return false;
-    }
-    if head_in(heads[row]).values != 1 {
-        return false;
-    }
     let first = s.value;
-    if first >= VALUES_ROOM {
+    if head_at(heads, s.row).values != 1
+        || first >= VALUES_ROOM
+        || values.len() < VALUE_WORDS * first + VALUE_WORDS
+    {
         return false;
     }
-    let from = 6 * first;
-    if values.len() < from + 6 {
-        return false;
-    }
-    covered(d, values[from])
+    covered(&d, values[VALUE_WORDS * first])
 }
 
 // A row's values that d covers go, and a value comes, of whose id none is left. If it comes for the only one, it is written over it, and no
@@ -128,22 +109,15 @@ pub fn set_value(
     c: Counts,
     s: Position,
     d: Counters,
-    id: u64,
-    kind: u64,
-    words: [u64; 4],
+    v: Value,
 ) -> Counts
-    ensures { Sets s d.at id (kind ∷ words) c heads.old values.old result heads.new
+    ensures { Sets s d.at v.id (v.kind ∷ v.words) c heads.old values.old result heads.new
         values.new }
 {
     if has_one(heads, values, s, d) {
-        let at = 6 * s.value;
-        write_words(
-            values,
-            at,
-            [id, kind, words[0], words[1], words[2], words[3]],
-        );
+        write_value(values, VALUE_WORDS * s.value, v);
         return c;
     }
     let left = drop_values(heads, values, c, s, d);
-    add_value(heads, values, left, s, id, kind, words)
+    add_value(heads, values, left, s, v)
 }

@@ -1,43 +1,17 @@
--- Loops that fill an array with words of a table, and words as counters.
+-- Words as counters, and counters as words.
 -- Assumes nothing.
 use Prim.Native.Nat.{ℕ, zero, suc, ◌+◌, ◌%◌, ◌≤◌, ◌<◌}
 use mathlib.Core.Path.{◌≡◌, refl, sym, ap, ◌∙◌}
-use mathlib.Core.List.{List, [], ◌∷◌, ◌++◌, append-nil}
-use native.Mathlib.Nat.{zero-add}
+use mathlib.Core.List.{List, [], ◌∷◌}
 use native.Mathlib.Omega.{arith}
-use lib.ListN.{length, take, drop, get_or, set}
-use lib.Seq.{drop-length}
-use Rattle.words.specs.Words.{run, over_at}
+use lib.ListN.{length, get_or}
+use lib.Seq.{ext_get_or}
+use Rattle.words.specs.Words.{run}
 use Rattle.words.proofs.Over.{run_length}
-use Rattle.words.proofs.Moves.{Laying, laying_step, laying_done, run_at}
+use Rattle.words.proofs.Moves.{run_at}
 use Rattle.waiting.specs.Rows.{counters}
 
--- i words of S stand at the start
-pub fill_step : (i : ℕ) (S t₀ t : List ℕ) → length S ≡ length t₀ → i < length S → Laying 0 i S t₀ t → (v : ℕ) → v ≡ get_or S i 0
-    → Laying 0 (i + 1) S t₀ (set t i v)
-fill_step i S t₀ t l h L v e = rw (zero-add i) at (laying_step 0 i S t₀ t (omega arith) h L v e)
-
-over-all : (S t : List ℕ) → length S ≡ length t → over_at 0 S t ≡ S
-unfolding over_at
-over-all S t l = rw (zero-add (length S), l, drop-length t) (append-nil S)
-
-pub fill_done : (i : ℕ) (S t₀ t : List ℕ) → length S ≡ length t₀ → length S ≤ i → Laying 0 i S t₀ t → t ≡ S
-fill_done i S t₀ t l h L = laying_done 0 i S t₀ t h L ∙ over-all S t₀ l
-
--- words of a table
-module _ (from i : ℕ) (t to₀ to : List ℕ) (k : from + length to₀ ≤ length t) (L : Laying 0 i (run from (length to₀) t) to₀ to) where
-  pub copy_step : i < length to₀ → Laying 0 (i + 1) (run from (length to₀) t) to₀ (set to i (get_or t (from + i) 0))
-  copy_step h =
-      let l = run_length from (length to₀) t k in
-      fill_step i (run from (length to₀) t) to₀ to l (omega arith) L _ (sym (run_at from (length to₀) i t h))
-
-  pub copy_done : length to₀ ≤ i → to ≡ run from (length to₀) t
-  copy_done h =
-      let l = run_length from (length to₀) t k in
-      fill_done i (run from (length to₀) t) to₀ to l (omega arith) L
-
--- counters of words
-pub counters-length : (xs : List ℕ) → length (counters xs) ≡ length xs
+counters-length : (xs : List ℕ) → length (counters xs) ≡ length xs
 unfolding counters
 counters-length [] = refl
 counters-length (x ∷ xs) = ap suc (counters-length xs)
@@ -48,18 +22,10 @@ counters-at [] i = refl
 counters-at (x ∷ xs) zero = refl
 counters-at (x ∷ xs) (suc i) = counters-at xs i
 
-module _ (from i : ℕ) (t to₀ to : List ℕ) (k : from + 8 ≤ length t) (e : length to₀ ≡ 8)
-    (L : Laying 0 i (counters (run from 8 t)) to₀ to) where
-  long : length (counters (run from 8 t)) ≡ 8
-  long = counters-length (run from 8 t) ∙ run_length from 8 t k
-
-  pub counters-step : i < 8 → Laying 0 (i + 1) (counters (run from 8 t)) to₀ (set to i (get_or t (from + i) 0 % 4294967296))
-  counters-step h =
-      let l = long in
-      fill_step i (counters (run from 8 t)) to₀ to (l ∙ sym e) (omega arith) L _
-      (sym (counters-at (run from 8 t) i ∙ ap (λ (x : ℕ). x % 4294967296) (run_at from 8 i t h)))
-
-  pub counters-done : 8 ≤ i → to ≡ counters (run from 8 t)
-  counters-done h =
-      let l = long in
-      fill_done i (counters (run from 8 t)) to₀ to (l ∙ sym e) (omega arith) L
+-- eight counters, each of which is what stands at its place
+pub counters_from : (from : ℕ) (t at : List ℕ) → from + 8 ≤ length t → length at ≡ 8
+    → ((i : ℕ) → i < 8 → get_or at i 0 ≡ get_or t (from + i) 0 % 4294967296) → at ≡ counters (run from 8 t)
+counters_from from t at k e each =
+    let l = counters-length (run from 8 t) ∙ run_length from 8 t k in
+    ext_get_or 0 at (counters (run from 8 t)) (e ∙ sym l)
+    (λ i h. each i (omega (arith, e, h)) ∙ sym (counters-at (run from 8 t) i ∙ ap (λ (x : ℕ). x % 4294967296) (run_at from 8 i t (omega (arith, e, h)))))

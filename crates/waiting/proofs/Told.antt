@@ -4,6 +4,7 @@ use Prim.Native.Nat.{ℕ, ◌+◌, ◌*◌, ◌-◌, ◌%◌, ◌≤◌, ◌<◌
 use mathlib.Core.Path.{◌≡◌, refl, sym, ap, ◌∙◌}
 use mathlib.Core.Bool.{Bool, true, false, not}
 use mathlib.Core.List.{List, ◌∷◌, ◌++◌}
+use Rattle.std.proofs.Common.{Some}
 use mathlib.Core.Logic.{⊎_elim}
 use native.Mathlib.Omega.{arith}
 use borrow.Author.Tests.{lt-ltb, le-ltb, eq-eqb, ne_eqb}
@@ -13,7 +14,7 @@ use Rattle.meaning.specs.Ids.{entry_of, entry, at_most, ready}
 use Rattle.meaning.specs.Judge.{own_deps_behind}
 use Rattle.meaning.specs.Ways.{Operation}
 use Rattle.meaning.specs.Valid.{ValidOperation}
-use Rattle.words.specs.Words.{run, over_at, opened, closed, inserted}
+use Rattle.words.specs.Words.{run, over_at, opened, closed}
 use Rattle.words.specs.Rows.{rank_rows, rank_of, flat, Ranked}
 use Rattle.words.proofs.Over.{open_write}
 use Rattle.message.specs.declared.Operation as M
@@ -80,7 +81,7 @@ module _ (t : List ℕ) (n i : ℕ) where
           all_there A R o W e,
         )
 
-  pub tells : (r : M.Operation) → ReadsRow t (40 * i) r → Tells t n i r
+  pub tells : (r : M.Operation) → ReadsRow t (40 * i) r → Tells t n i (Some r)
   unfolding Tells
   tells r q A R o W e =
       row_means (flat op_words A) (behind A o R) o (40 * i) (before_long t n i A R o W e) (valid_there A R o W) r

@@ -1,7 +1,7 @@
 -- The table of waiting operations, and what the functions over it promise: if the table held these operations, the answer is that, and the
 -- table holds those afterwards. Memory that holds no operations is promised nothing.
 -- Assumes nothing: these are definitions.
-use Rattle.std.specs.Prelude.{ℕ, ◌+◌, ◌≤◌, ◌<◌, ◌≡◌, Bool, false, not, ◌&&◌, List, ◌∷◌, ◌++◌, ◌⊎◌, length}
+use Rattle.std.specs.Prelude.{ℕ, ◌+◌, ◌≤◌, ◌<◌, ◌≡◌, Bool, false, not, ◌&&◌, List, ◌∷◌, ◌++◌, ◌⊎◌, length, Option, None, Some}
 use Rattle.meaning.specs.Ids.{ready}
 use Rattle.meaning.specs.Judge.{own_deps_behind}
 use Rattle.meaning.specs.Members.{All, Ascending}
@@ -36,9 +36,14 @@ TellsEarly t n i s r =
     (A R : List Operation) (o : Operation) → Waits t n (A ++ o ∷ R) → i ≡ length A
     → r ≡ (not (own_deps_behind s o) && not (ready s o.id o.deps))
 
+-- an operation is told, and it means o
+abbrev pub MeansOne : Option M.Operation → Operation → Type 0
+MeansOne (Some r) o = Means r o
+MeansOne None o = ⊥
+
 -- the operation at i
-unfoldable pub Tells : List ℕ → ℕ → ℕ → M.Operation → Type 0
-Tells t n i r = (A R : List Operation) (o : Operation) → Waits t n (A ++ o ∷ R) → i ≡ length A → Means r o
+unfoldable pub Tells : List ℕ → ℕ → ℕ → Option M.Operation → Type 0
+Tells t n i r = (A R : List Operation) (o : Operation) → Waits t n (A ++ o ∷ R) → i ≡ length A → MeansOne r o
 
 -- whether one with this id waits
 unfoldable pub TellsWaits : List ℕ → ℕ → ℕ → Bool → Type 0

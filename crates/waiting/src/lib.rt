@@ -7,10 +7,10 @@ mod row;
 
 ghost use Rattle.waiting.specs.Waits.{TellsEarly, Tells, TellsWaits, Puts, TakesOut};
 
-use counters::{at_most, wide};
+use counters::at_most;
 use meaning::Counters;
 use message::Operation;
-use row::{counters_at, no_op, read_row, write_row};
+use row::{counters_at, read_row, write_row};
 use words::{close, open, rank_rows};
 
 // How many words the table has, how many an operation takes, and how many operations wait at most. Contracts don't see these numbers: those
@@ -26,17 +26,11 @@ pub const MOST: usize = 64;
 pub fn early(t: &[u64], n: usize, i: usize, seen: &[u32; 8]) -> bool
     ensures { TellsEarly t.now n i seen.now result }
 {
-    if t.len() < WAITING {
-        return false;
-    }
-    if n > MOST {
-        return false;
-    }
-    if i >= n {
+    if t.len() < WAITING || n > MOST || i >= n {
         return false;
     }
     let own = (t[ROW * i] % 8) as usize;
-    let last = wide(seen[own]);
+    let last = u64::from(seen[own]);
     let entry = t[ROW * i + 1 + own];
     if entry < last {
         return false;
@@ -50,50 +44,35 @@ pub fn early(t: &[u64], n: usize, i: usize, seen: &[u32; 8]) -> bool
     !ready
 }
 
-// The operation at i.
-pub fn op_at(t: &[u64], n: usize, i: usize) -> Operation
+// The operation at i, if one is there.
+pub fn op_at(t: &[u64], n: usize, i: usize) -> Option<Operation>
     ensures { Tells t.now n i result }
 {
-    if t.len() < WAITING {
-        return no_op();
+    if t.len() < WAITING || n > MOST || i >= n {
+        return None;
     }
-    if n > MOST {
-        return no_op();
-    }
-    if i >= n {
-        return no_op();
-    }
-    read_row(t, ROW * i)
+    Some(read_row(t, ROW * i))
 }
 
 // Whether an operation with this id waits.
 pub fn waits(t: &[u64], n: usize, id: u64) -> bool
     ensures { TellsWaits t.now n id result }
 {
-    if t.len() < WAITING {
+    if t.len() < WAITING || n > MOST {
         return false;
     }
-    if n > MOST {
-        return false;
-    }
-    let k = rank_rows(t, 0, n, ROW, id);
-    if k >= n {
-        return false;
-    }
-    id == t[ROW * k]
+    let k = rank_rows::<ROW>(t, 0, n, id);
+    k < n && id == t[ROW * k]
 }
 
 // Puts an operation among those that wait, none of which has its id, and answers how many they are.
 pub fn put(t: &mut [u64], n: usize, op: Operation) -> usize
     ensures { Puts op t.old n t.new result }
 {
-    if t.len() < WAITING {
+    if t.len() < WAITING || n >= MOST {
         return n;
     }
-    if n >= MOST {
-        return n;
-    }
-    let at = ROW * rank_rows(t, 0, n, ROW, op.act.id);
+    let at = ROW * rank_rows::<ROW>(t, 0, n, op.act.id);
     open(t, ROW * n, at, ROW);
     write_row(t, at, op);
     n + 1
@@ -103,13 +82,7 @@ pub fn put(t: &mut [u64], n: usize, op: Operation) -> usize
 pub fn take_out(t: &mut [u64], n: usize, i: usize) -> usize
     ensures { TakesOut t.old n i t.new result }
 {
-    if t.len() < WAITING {
-        return n;
-    }
-    if n > MOST {
-        return n;
-    }
-    if i >= n {
+    if t.len() < WAITING || n > MOST || i >= n {
         return n;
     }
     close(t, ROW * n, ROW * i + ROW, ROW * i);

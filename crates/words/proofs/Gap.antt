@@ -5,11 +5,11 @@ use mathlib.Core.Path.{◌≡◌, refl, sym, ap, ◌∙◌}
 use mathlib.Core.List.{List, [], ◌∷◌, ◌++◌}
 use native.Mathlib.Nat.{add-zero}
 use native.Mathlib.Omega.{arith}
-use lib.ListN.{length, get_or, set, replicate, length-set, length-replicate, length-append, get_or-replicate}
+use lib.ListN.{length, get_or, set, replicate, length-set, get_or-replicate}
 use lib.Seq.{ext_get_or, get_or-set_same, get_or-set_other, get_or-append-add}
 use Rattle.theorems.specs.Decide.{Tri, less, same, more, tri}
 use Rattle.words.specs.Words.{run, over_at, opened, inserted, pad}
-use Rattle.words.specs.Gap.{Gap, Leaves}
+use Rattle.words.specs.Gap.{Gap}
 use Rattle.words.proofs.Over.{run_length, over-length, over_above, over_below, over-at, opened_length}
 use Rattle.words.proofs.Moves.{run_at}
 

@@ -15,7 +15,8 @@ use Rattle.meaning.specs.Sets.{keep}
 use Rattle.meaning.specs.Members.{own}
 use Rattle.words.specs.Words.{run, over_at}
 use Rattle.words.specs.Rows.{keep_rows, rank_rows, rank_of, Kept, Ranked}
-use Rattle.words.proofs.Over.{run_length, run-one, over_none, over-one, over-run, over_above, over-then}
+use Rattle.words.proofs.Moves.{within_over, Lowering}
+use Rattle.words.proofs.Over.{run_length, over_none, over-run, over_above, over-then}
 
 more : (i w : ℕ) → (i + 1) * w ≡ i * w + w
 more i w = rw (add-one i) (suc-mul i w)
@@ -109,9 +110,8 @@ module _ (w : ℕ) (p : ℕ → Bool) (from to i o at : ℕ) (t₀ t : List ℕ)
       record { next = rw r K.next; low = K.low; high = omega arith; len = K.len; is = rw r K.is }
 
   -- the row is copied down to o
-  pub keeping_yes : p (get_or t at 0) ≡ true → (t' : List ℕ) → length t' ≡ length t → t' ≡ over_at o (run at w t) t
-      → Keeping w p from to (i + 1) (o + w) t₀ t'
-  keeping_yes y t' l s =
+  pub keeping_yes : p (get_or t at 0) ≡ true → (t' : List ℕ) (j : ℕ) → j ≡ w → Lowering at o j t t' → Keeping w p from to (i + 1) (o + w) t₀ t'
+  keeping_yes y t' j u L =
       let r = rows_yes w p from i at t₀ e (rw keeping_read at y) in
       let n = K.next in
       let g = K.high in
@@ -124,32 +124,18 @@ module _ (w : ℕ) (p : ℕ → Bool) (from to i o at : ℕ) (t₀ t : List ℕ)
         next = rw r (simp length-append (omega arith));
         low = omega arith;
         high = omega arith;
-        len = l ∙ K.len;
-        is = rw r (s ∙ rw (d, K.is, n) (over-then to X t₀ (omega arith) (run at w t₀)));
+        len = L.len ∙ K.len;
+        is = rw r (rw u at L.is ∙ (within_over at w (at + w) o t refl (omega arith) ∙ rw (d, K.is, n) (over-then to X t₀ (omega arith) (run at w t₀))));
       }
 
--- a mark is one word
-pub keeping_mark : (p : ℕ → Bool) (from to i o at : ℕ) (t₀ t : List ℕ) → to ≤ from → at ≡ from + i * 1 → at + 1 ≤ length t₀
-    → Keeping 1 p from to i o t₀ t → p (get_or t at 0) ≡ true → Keeping 1 p from to (i + 1) (o + 1) t₀ (set t o (get_or t at 0))
-keeping_mark p from to i o at t₀ t h e k K y =
-    let g = K.high in
-    let l = K.len in
-    keeping_yes 1 p from to i o at t₀ t h e k K y (set t o (get_or t at 0)) (length-set t o (get_or t at 0))
-    (rw (run-one at t 0 (omega arith)) (over-one o t (get_or t at 0) (omega arith)))
-
-pub keeping_done : (w : ℕ) (p : ℕ → Bool) (from to i n o : ℕ) (t₀ t : List ℕ) → i ≡ n → Keeping w p from to i o t₀ t
-    → Kept to (n * w) (keep_rows w p n (drop from t₀)) t₀ o t
-keeping_done w p from to i n o t₀ t e K =
-    record { next = rw e at K.next; low = K.low; high = rw e at K.high; table = rw e at K.is }
-
-pub keeping_marks : (p : ℕ → Bool) (from to i n o : ℕ) (t₀ t : List ℕ) → from + n ≤ length t₀ → i ≡ n → Keeping 1 p from to i o t₀ t
-    → Kept to n (keep p (run from n t₀)) t₀ o t
+-- marks kept
+pub kept_marks : (p : ℕ → Bool) (from to n r : ℕ) (t t' : List ℕ) → from + n ≤ length t
+    → Kept to (n * 1) (keep_rows 1 p n (drop from t)) t r t' → Kept to n (keep p (run from n t)) t r t'
 unfolding run
-keeping_marks p from to i n o t₀ t h e K =
-    let l = lib.ListN.length-drop from t₀ in
-    let r = rows_one p n (drop from t₀) (omega arith) in
-    let D = keeping_done 1 p from to i n o t₀ t e K in
-    record { next = rw r at D.next; low = D.low; high = omega (arith, D.high); table = rw r at D.table }
+kept_marks p from to n r t t' h K =
+    let l = lib.ListN.length-drop from t in
+    let e = rows_one p n (drop from t) (omega arith) in
+    record { next = rw e at K.next; low = K.low; high = omega (arith, K.high); table = rw e at K.table }
 
 -- Counting: i rows have been tried, r of which aren't kept.
 
@@ -176,17 +162,13 @@ module _ (w : ℕ) (p : ℕ → Bool) (from i r at : ℕ) (t : List ℕ) (e : at
       let c : length (run at w t) ≡ w = run_length at w t k in
       record { high = omega arith; is = rw (rows_yes w p from i at t e y) (simp length-append (omega (arith, more i w))) }
 
-pub counting-done : (w : ℕ) (p : ℕ → Bool) (from i n r : ℕ) (t : List ℕ) → i ≡ n → Counting w p from i r t
-    → r * w + length (keep_rows w p n (drop from t)) ≡ n * w
-counting-done w p from i n r t e C = rw e at C.is
-
-pub counting_marks : (p : ℕ → Bool) (from i n r : ℕ) (t : List ℕ) → from + n ≤ length t → i ≡ n → Counting 1 p from i r t
-    → r + length (keep p (run from n t)) ≡ n
+-- marks counted
+pub counted_marks : (p : ℕ → Bool) (from n r : ℕ) (t : List ℕ) → from + n ≤ length t
+    → r * 1 + length (keep_rows 1 p n (drop from t)) ≡ n * 1 → r + length (keep p (run from n t)) ≡ n
 unfolding run
-counting_marks p from i n r t h e C =
+counted_marks p from n r t h e =
     let l = lib.ListN.length-drop from t in
-    let d = counting-done 1 p from i n r t e C in
-    let q : r * 1 + length (keep p (take n (drop from t))) ≡ n * 1 = rw (rows_one p n (drop from t) (omega arith)) at d in
+    let q : r * 1 + length (keep p (take n (drop from t))) ≡ n * 1 = rw (rows_one p n (drop from t) (omega arith)) at e in
     omega arith
 
 -- Ranking: the first i of n rows have a smaller id.
@@ -235,6 +217,7 @@ ranking_ends w id from n i t h R =
     let z : rank_rows w id (n - i) (drop (from + i * w) t) ≡ 0 = rw s in
     record { is = omega (arith, R.is, R.high); high = omega arith }
 
+-- marks ranked
 pub ranked_marks : (id from n r : ℕ) (t : List ℕ) → from + n ≤ length t → Ranked n (rank_rows 1 id n (drop from t)) r
     → Ranked n (rank_of own id (run from n t)) r
 unfolding run

@@ -1,304 +1,126 @@
-// The calls of a turn: found in the script once, kept as words, and made in each turn.
-use keeping::State;
-use meaning::{Edited, Reading, Saved};
-use readers::Past;
+// The calls of a turn: found in the script once, kept, and made in each turn.
+use keeping::Memory;
+use readers::take_byte;
 use replay_text::{LONGEST_BUFFER, Lent, block_of, lent_of, lent_with_number};
-use script::{Asked, BlockFound, part};
-use tables::{HEADS, KEYS, MARKS, VALUES, word};
-use waiting::WAITING;
+use script::{BlockFound, number};
 
-// The most calls of a turn, and the words that keep them, five for each.
-const MOST: usize = 512;
+// The most calls of a turn.
+pub const MOST: usize = 512;
 
-pub const CALLS: usize = 2560;
-
-// What a call is.
-pub const RECEIVE: u64 = 1;
-
-const EDIT: u64 = 2;
-
-const READ_KEYS: u64 = 3;
-
-const READ_VALUES: u64 = 4;
-
-const ELEMENT: u64 = 5;
-
-const SAVE: u64 = 6;
-
-// A call in the script: what it is (0 if there is none), where its block stands, the number behind the block's, the buffer's size, and
-// where the next call begins.
+// A call in the script. The number beside the block of an edit is the device's, that of a read for an element is the element's.
 #[derive(Clone, Copy)]
-pub struct Found {
-    pub what: u64,
-    pub from: usize,
-    pub to: usize,
-    pub other: u64,
-    pub room: usize,
-    pub next: usize,
+pub enum Call {
+    Receive(BlockFound),
+    Edit(Lent),
+    Keys(Lent),
+    Values(Lent),
+    Element(Lent),
+    Save { room: usize, next: usize },
 }
 
-// The terminal's state, and the bytes of the last call that wrote any.
-#[derive(Clone, Copy)]
-pub struct Played {
-    pub state: State,
-    pub written: usize,
-}
-
-fn lent_call(what: u64, l: Lent, a: usize) -> Found {
-    if let Lent::Call {
-        from,
-        to,
-        other,
-        room,
-        next,
-    } = l
-    {
-        return Found {
-            what,
-            from,
-            to,
-            other,
-            room,
-            next,
-        };
-    }
-    Found {
-        what: 0,
-        from: 0,
-        to: 0,
-        other: 0,
-        room: 0,
-        next: a,
-    }
-}
-
-fn save_call(text: &[u8], a: usize) -> Found {
-    if let Asked::Number { value, next: end } = script::number(
-        text,
-        a,
-        b"save ",
-        LONGEST_BUFFER as u64,
-    ) {
-        if let Past::At(next) = readers::take_byte(text, end, b'\n') {
-            return Found {
-                what: SAVE,
-                from: 0,
-                to: 0,
-                other: 0,
-                room: value as usize,
-                next,
-            };
+impl Call {
+    // Where the next call begins.
+    fn next(self) -> usize {
+        match self {
+            Call::Receive(block) => block.next,
+            Call::Edit(l) | Call::Keys(l) | Call::Values(l) | Call::Element(l) => l.block.next,
+            Call::Save { room: _, next } => next,
         }
     }
-    Found {
-        what: 0,
-        from: 0,
-        to: 0,
-        other: 0,
-        room: 0,
-        next: a,
+
+    // The size of the buffer that is lent.
+    fn room(self) -> usize {
+        match self {
+            Call::Receive(_) => 0,
+            Call::Edit(l) | Call::Keys(l) | Call::Values(l) | Call::Element(l) => l.room,
+            Call::Save { room, next: _ } => room,
+        }
     }
+}
+
+fn find_save(text: &[u8], a: usize) -> Option<Call> {
+    let (room, end) = number(text, a, b"save ", LONGEST_BUFFER as u64)?;
+    let next = take_byte(text, end, b'\n')?;
+    Some(Call::Save {
+        room: room as usize,
+        next,
+    })
 }
 
 // The call at a place of the script.
-pub fn find(text: &[u8], a: usize) -> Found {
-    if let BlockFound::Bytes { from, to, next } = block_of(text, a, b"receive ") {
-        return Found {
-            what: RECEIVE,
-            from,
-            to,
-            other: 0,
-            room: 0,
-            next,
-        };
+pub fn find(text: &[u8], a: usize) -> Option<Call> {
+    if let Some(block) = block_of(text, a, b"receive ") {
+        return Some(Call::Receive(block));
     }
-    let k = lent_call(READ_KEYS, lent_of(text, a, b"keys "), a);
-    if k.what != 0 {
-        return k;
+    if let Some(l) = lent_of(text, a, b"keys ") {
+        return Some(Call::Keys(l));
     }
-    let v = lent_call(READ_VALUES, lent_of(text, a, b"values "), a);
-    if v.what != 0 {
-        return v;
+    if let Some(l) = lent_of(text, a, b"values ") {
+        return Some(Call::Values(l));
     }
-    let e = lent_call(EDIT, lent_with_number(text, a, b"edit "), a);
-    if e.what != 0 {
-        return e;
+    if let Some(l) = lent_with_number(text, a, b"edit ") {
+        return Some(Call::Edit(l));
     }
-    let n = lent_call(ELEMENT, lent_with_number(text, a, b"element "), a);
-    if n.what != 0 {
-        return n;
+    if let Some(l) = lent_with_number(text, a, b"element ") {
+        return Some(Call::Element(l));
     }
-    save_call(text, a)
+    find_save(text, a)
 }
 
-// Finds the calls from a place on, and says how many there are; no more than have room.
-pub fn find_all(text: &[u8], a: usize, t: &mut [u64; CALLS]) -> usize {
+// Finds the calls from a place on, as many as have room.
+pub fn find_all(text: &[u8], a: usize, calls: &mut [Option<Call>; MOST]) {
     let mut at = a;
-    let mut n: usize = 0;
-    while n < MOST {
-        let f = find(text, at);
-        if f.what == 0 {
-            return n;
+    for place in calls.iter_mut() {
+        let Some(call) = find(text, at) else {
+            return;
+        };
+        *place = Some(call);
+        at = call.next();
+    }
+}
+
+// Makes a call, and answers how many bytes it wrote.
+fn make_call(text: &[u8], call: Call, m: &mut Memory, buf: &mut [u8]) -> usize {
+    let Some(buf) = buf.get_mut(..call.room()) else {
+        return 0;
+    };
+    match call {
+        Call::Receive(block) => {
+            let _ = terminal::receive(m, block.bytes(text));
+            0
         }
-        t[5 * n] = f.what;
-        t[5 * n + 1] = f.from as u64;
-        t[5 * n + 2] = f.to as u64;
-        t[5 * n + 3] = f.other;
-        t[5 * n + 4] = f.room as u64;
-        at = f.next;
-        n += 1;
-    }
-    n
-}
-
-// Call n of those that were found.
-fn call_at(t: &[u64; CALLS], n: usize) -> Found {
-    if n >= MOST {
-        return Found {
-            what: 0,
-            from: 0,
-            to: 0,
-            other: 0,
-            room: 0,
-            next: 0,
-        };
-    }
-    Found {
-        what: word(t, 5 * n),
-        from: word(t, 5 * n + 1) as usize,
-        to: word(t, 5 * n + 2) as usize,
-        other: word(t, 5 * n + 3),
-        room: word(t, 5 * n + 4) as usize,
-        next: 0,
+        Call::Edit(l) => match edit::edit(m, l.other, l.block.bytes(text), buf) {
+            Ok(made) => made.written,
+            Err(_) => 0,
+        },
+        Call::Keys(l) => reads::keys(&m.document, l.block.bytes(text), buf).unwrap_or(0),
+        Call::Values(l) => reads::values(&m.document, l.block.bytes(text), buf).unwrap_or(0),
+        Call::Element(l) => {
+            reads::element(&m.document, l.block.bytes(text), l.other, buf).unwrap_or(0)
+        }
+        Call::Save { .. } => {
+            let d = &m.document;
+            sheet::save(&d.tables, d.counts, d.seen, buf).unwrap_or(0)
+        }
     }
 }
 
-// How many bytes were written.
-
-fn edited(r: Edited) -> usize {
-    if let Edited::Applied {
-        applied: _,
-        dropped: _,
-        written,
-    } = r
-    {
-        return written;
-    }
-    0
-}
-
-fn saved(r: Saved) -> usize {
-    if let Saved::Written { written } = r {
-        return written;
-    }
-    0
-}
-
-fn read(r: Reading) -> usize {
-    if let Reading::Written { written } = r {
-        return written;
-    }
-    0
-}
-
-// Behind a call that wrote so many bytes.
-fn past(p: Played, state: State, written: usize) -> Played {
-    if written == 0 {
-        return Played {
-            state,
-            written: p.written,
-        };
-    }
-    Played { state, written }
-}
-
-// The reads and `save`, into a buffer that is lent.
-fn read_into(
-    heads: &[u64; HEADS],
-    keys: &[u64; KEYS],
-    marks: &[u64; MARKS],
-    values: &[u64; VALUES],
-    s: State,
-    f: Found,
-    way: &[u8],
-    buf: &mut [u8],
-) -> usize {
-    let c = s.counts;
-    if f.what == READ_KEYS {
-        return read(reads::keys(heads, keys, c, way, buf));
-    }
-    if f.what == READ_VALUES {
-        return read(reads::values(heads, keys, values, c, way, buf));
-    }
-    if f.what == ELEMENT {
-        return read(reads::element(heads, keys, c, way, f.other, buf));
-    }
-    let seen = s.seen;
-    saved(sheet::save(heads, keys, marks, values, c, seen, buf))
-}
-
-// Makes a call.
-fn make_call(
-    text: &[u8],
-    f: Found,
-    heads: &mut [u64; HEADS],
-    keys: &mut [u64; KEYS],
-    marks: &mut [u64; MARKS],
-    values: &mut [u64; VALUES],
-    waiting: &mut [u64; WAITING],
-    p: Played,
-    buf: &mut [u8],
-) -> Played {
-    let s = p.state;
-    let block = part(text, f.from, f.to);
-    if f.what == RECEIVE {
-        let r = terminal::receive(heads, keys, marks, values, waiting, s, block);
-        let state = r.state;
-        return past(p, state, 0);
-    }
-    let room = f.room;
-    if room > buf.len() {
-        return p;
-    }
-    if f.what == EDIT {
-        let r = edit::edit(
-            heads,
-            keys,
-            marks,
-            values,
-            waiting,
-            s,
-            f.other,
-            block,
-            &mut buf[..room],
-        );
-        let answer = r.answer;
-        let state = r.state;
-        return past(p, state, edited(answer));
-    }
-    let n = read_into(heads, keys, marks, values, s, f, block, &mut buf[..room]);
-    past(p, s, n)
-}
-
-// Makes the first n of the calls that were found.
+// Makes the calls that were found, and answers how many bytes the last of them wrote that wrote any.
 pub fn make_all(
     text: &[u8],
-    t: &[u64; CALLS],
-    n: usize,
-    heads: &mut [u64; HEADS],
-    keys: &mut [u64; KEYS],
-    marks: &mut [u64; MARKS],
-    values: &mut [u64; VALUES],
-    waiting: &mut [u64; WAITING],
-    start: Played,
+    calls: &[Option<Call>; MOST],
+    m: &mut Memory,
     buf: &mut [u8],
-) -> Played {
-    let mut p = start;
-    let mut i: usize = 0;
-    while i < n {
-        let f = call_at(t, i);
-        p = make_call(text, f, heads, keys, marks, values, waiting, p, buf);
-        i += 1;
+) -> usize {
+    let mut last = 0;
+    for call in calls.iter() {
+        let Some(call) = *call else {
+            return last;
+        };
+        let written = make_call(text, call, m, buf);
+        if written > 0 {
+            last = written;
+        }
     }
-    p
+    last
 }

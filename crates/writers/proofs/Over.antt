@@ -1,13 +1,12 @@
--- Laws of a buffer whose start is overwritten: a byte more, a text more in the lent rest, and reading off what was written.
+-- Laws of a buffer whose start is overwritten: a byte more, a text more, and reading off what was written.
 -- Assumes nothing.
-use Prim.Native.Nat.{ℕ, suc, ◌+◌, ◌-◌, ◌≤◌, ◌<◌}
+use Prim.Native.Nat.{ℕ, suc, ◌+◌, ◌≤◌, ◌<◌}
 use native.Mathlib.Omega.{arith}
 use native.Mathlib.Numerals.{add-one}
 use mathlib.Core.Path.{◌≡◌, refl, sym, ap, ◌∙◌}
 use mathlib.Core.List.{List, [], ◌∷◌, ◌++◌, append_assoc}
-use lib.ListN.{length, take, drop, get_or, set, length-append, length-drop, length-take, length-set, drop_of_length-le}
+use lib.ListN.{length, take, drop, get_or, set, length-append, length-drop, length-take, length-set}
 use lib.Seq.{drop-drop, take-append_seam, drop-append_seam, take_all, drop-cons, take-suc, set_at}
-use borrow.Rule.Slice.PartMut.{put_mid}
 use Rattle.meaning.specs.Text.{over}
 use Rattle.decimal.specs.Take.{Wrote}
 use Rattle.writers.specs.Wrote.{WroteAt}
@@ -40,27 +39,6 @@ wrote_none buffer = record { size = refl; buffer = refl }
 pub wrote_as : {t u before after : List ℕ} {n : ℕ} → t ≡ u → Wrote t before after n → Wrote u before after n
 wrote_as {before = before} {after = after} {n = n} e w = rw e at w
 
--- the rest of the buffer, from the bytes already written onward: `&mut buf[at..]`
-abbrev pub rest_of : List ℕ → ℕ → List ℕ
-rest_of buffer at = take (length buffer - at) (drop at buffer)
-
--- A text u is written into the rest of a buffer, which is lent and comes back: there is room for it, and it stands at the place.
-module _ (u buffer : List ℕ) (at : ℕ) (fits : at + length u ≤ length buffer) where
-  rest-is : rest_of buffer at ≡ drop at buffer
-  rest-is = take_all (length buffer - at) (drop at buffer) (simp length-drop (omega arith))
-
-  pub rest-room : length u ≤ length (rest_of buffer at)
-  rest-room = rw (rest-is, length-drop) (omega arith)
-
-  pub came_back : {rest : List ℕ} {m : ℕ} → Wrote u (rest_of buffer at) rest m
-      → WroteAt u at buffer (put_mid at (length buffer - at) buffer rest) (at + m)
-  came_back {rest} {m} w =
-      let p : length buffer ≤ at + (length buffer - at) = omega arith in
-      record {
-        size = ap (λ n. at + n) w.size;
-        buffer = rw (drop-drop (length buffer - at) at buffer, drop_of_length-le buffer p, append_none rest, w.buffer, rest-is);
-      }
-
 module _ {t before after : List ℕ} {n : ℕ} (w : Wrote t before after n) where
   wrote_length : length t ≤ length before → length after ≡ length before
   wrote_length h = rw w.buffer (over-length t before h)
@@ -73,7 +51,7 @@ module _ {t before after : List ℕ} {n : ℕ} (w : Wrote t before after n) wher
   }
 
   -- a text more
-  wrote_more : {u next : List ℕ} {m : ℕ} → WroteAt u n after next m → Wrote (t ++ u) before next m
+  pub wrote_more : {u next : List ℕ} {m : ℕ} → WroteAt u n after next m → Wrote (t ++ u) before next m
   wrote_more {u} {next} {m} v = record {
     size = rw (length-append t u) (omega (arith, w.size, v.size));
     buffer = rw (v.buffer, w.buffer, w.size) (over-over t before u);
@@ -86,13 +64,6 @@ pub record Writing (whole before rest after : List ℕ) (n : ℕ) : Type 0 where
   pub fits : length whole ≤ length before
   pub wrote : Wrote start before after n
 
-pub first-room : (u rest before : List ℕ) {whole : List ℕ} → whole ≡ u ++ rest → length whole ≤ length before → length u ≤ length before
-first-room u rest before e fits = omega (arith, length-append u rest, ap length e)
-
-pub first : {whole before u rest after : List ℕ} {n : ℕ} → Wrote u before after n → whole ≡ u ++ rest → length whole ≤ length before
-    → Writing whole before rest after n
-first {u = u} w e fits = record { start = u; text = e; fits = fits; wrote = w }
-
 -- what is still to come, spelled otherwise
 pub to_come : {whole before rest rest' after : List ℕ} {n : ℕ} → rest ≡ rest' → Writing whole before rest after n
     → Writing whole before rest' after n
@@ -103,17 +74,11 @@ module _ {whole before after : List ℕ} {n : ℕ} where
   pub all : Writing whole before [] after n → Wrote whole before after n
   all g = wrote_as (sym (append_none g.start) ∙ sym g.text) g.wrote
 
-  pub last-room : {u : List ℕ} → Writing whole before u after n → n + length u ≤ length after
+  last-room : {u : List ℕ} → Writing whole before u after n → n + length u ≤ length after
   last-room {u} g =
       let l = length-append g.start u in
       let e = ap length g.text in
       omega (arith, g.wrote.size, wrote_length g.wrote (omega (arith, g.fits)), g.fits)
-
-  pub same_long : {rest : List ℕ} → Writing whole before rest after n → length after ≡ length before
-  same_long {rest} g =
-      let l = length-append g.start rest in
-      let e = ap length g.text in
-      wrote_length g.wrote (omega (arith, g.fits))
 
   pub room : (u rest : List ℕ) → Writing whole before (u ++ rest) after n → n + length u ≤ length after
   room u rest g = omega (arith, last-room g, length-append u rest)
@@ -126,9 +91,6 @@ module _ {whole before after : List ℕ} {n : ℕ} where
     fits = g.fits;
     wrote = wrote_more g.wrote w;
   }
-
-  pub last : {u next : List ℕ} {m : ℕ} → WroteAt u n after next m → Writing whole before u after n → Wrote whole before next m
-  last w g = wrote_as (sym g.text) (wrote_more g.wrote w)
 
 -- The first i bytes of a text are copied to the start of the buffer.
 pub record Copying (text before after : List ℕ) (i : ℕ) : Type 0 where

@@ -7,84 +7,87 @@ use native.Mathlib.Omega.{arith}
 use mathlib.Core.Path.{◌≡◌, refl, sym, ap, ap₂, ◌∙◌}
 use mathlib.Core.List.{List, [], ◌∷◌, ◌++◌, append_assoc}
 use lib.ListN.{length, length-append}
-use borrow.Rule.Slice.PartMut.{put_mid}
 use Rattle.decimal.specs.Take.{Wrote}
 use Rattle.writers.specs.Sized.{Sized}
 use Rattle.writers.specs.Texts.{texts}
-use Rattle.writers.proofs.Over.{append_none, rest_of, rest-room, came_back, wrote_none, Writing, to_come, all, room, next}
-use Rattle.writers.proofs.Texts.{sized}
+use Rattle.writers.specs.Wrote.{WroteAt}
+use Rattle.writers.proofs.Over.{append_none, wrote_none, Writing, to_come, all, room, next}
 
--- the same text, spelled otherwise
-pub sized_as : {t u : List ℕ} {limit n : ℕ} → t ≡ u → Sized t limit n → Sized u limit n
-sized_as {t} e s = sized t (sym e) s.size s.most
-
--- Nothing is written yet.
-pub begun : (whole before : List ℕ) → length whole ≤ length before → Writing whole before whole before 0
-begun whole before h = record { start = []; text = refl; fits = h; wrote = wrote_none before }
-
--- The rest of the buffer is lent for a text u, and comes back with it.
-module _ {whole before after : List ℕ} {at : ℕ} (u rest : List ℕ) (g : Writing whole before (u ++ rest) after at) where
-  pub lent-room : length u ≤ length (rest_of after at)
-  lent-room = rest-room u after at (room u rest g)
-
-  pub lent_fits : {b d : List ℕ} {m : ℕ} → Wrote u b d m → at + m ≤ length after
-  lent_fits w = omega (arith, w.size, room u rest g)
-
-  pub lent : {part : List ℕ} {m : ℕ} → Wrote u (rest_of after at) part m
-      → Writing whole before rest (put_mid at (length after - at) after part) (at + m)
-  lent w = next (came_back u after at (room u rest g) w) rest g
-
--- Of the size of a whole text `sum` is counted, and that of `rest` is still to come: `left` texts of at most `limit` bytes.
-pub record Summing (whole rest : List ℕ) (limit left bound sum : ℕ) : Type 0 where
-  pub size : length whole ≡ sum + length rest
-  pub most : sum + limit * left ≤ bound
-
-module _ {S : Type 0} (piece : S → List ℕ) (on : S → S) where
-  pub more : (s : S) (n : ℕ) → 0 < n → texts piece on s n ≡ piece s ++ texts piece on (on s) (n - 1)
+-- Of n texts, from one on, the first i are counted or written, and the others are still to come from `from` on.
+module _ {S : Type 0} (piece : S → List ℕ) (on : S → S) (Has : S → ℕ → Type 0) where
+  more : (s : S) (n m : ℕ) → n ≡ suc m → texts piece on s n ≡ piece s ++ texts piece on (on s) m
   unfolding texts
-  more s zero h = absurd (omega arith)
-  more s (suc n) h = let e : n ≡ suc n - 1 = omega arith in ap (λ m. piece s ++ texts piece on (on s) m) e
+  more s n m e = rw e
 
-  none : (s : S) (n : ℕ) → n ≤ 0 → texts piece on s n ≡ []
+  none : (s : S) (n : ℕ) → n ≡ 0 → texts piece on s n ≡ []
   unfolding texts
-  none s zero h = refl
-  none s (suc n) h = absurd (omega arith)
+  none s n e = rw e
 
-  -- a size more, and all of them
-  pub sum_begun : (s : S) (n limit : ℕ) → Summing (texts piece on s n) (texts piece on s n) limit n (limit * n) 0
-  sum_begun s n limit = record { size = omega arith; most = omega arith }
+  -- where one is to come, it stands here, and the others from the next on
+  pub onward_at : (Here : S → Type 0) → ((s : S) (n : ℕ) → Has s (suc n) → Here s × Has (on s) n)
+      → {s : S} {n i : ℕ} → i < n → Has s (n - i) → Here s × Has (on s) (n - (i + 1))
+  onward_at Here f {s} {n} {i} h k = let e : n - i ≡ suc (n - (i + 1)) = omega arith in f s (n - (i + 1)) (rw e at k)
 
-  pub sum_more : {whole : List ℕ} {limit bound sum m : ℕ} (s : S) (n : ℕ) → 0 < n → Summing whole (texts piece on s n) limit n bound sum
-      → Sized (piece s) limit m → Summing whole (texts piece on (on s) (n - 1)) limit (n - 1) bound (sum + m)
-  sum_more {limit = limit} s n h g z =
-      let e : n ≡ suc (n - 1) = omega arith in
-      let l : limit * n ≡ limit * (n - 1) + limit = ap (λ n. limit * n) e ∙ mul-suc limit (n - 1) in
+  -- the size of the whole is `sum` and that of what is to come; each has at most `each` bytes
+  pub record Summing (first : S) (n each : ℕ) (s : S) (i sum : ℕ) : Type 0 where
+    pub within : i ≤ n
+    pub has : Has s (n - i)
+    pub size : length (texts piece on first n) ≡ sum + length (texts piece on s (n - i))
+    pub most : sum + each * (n - i) ≤ each * n
+
+  module _ {first : S} {n each : ℕ} {s : S} {i sum : ℕ} (g : Summing first n each s i sum) where
+    pub sum_more : i < n → Has (on s) (n - (i + 1)) → {limit m : ℕ} → limit ≤ each → Sized (piece s) limit m
+        → Summing first n each (on s) (i + 1) (sum + m)
+    sum_more h k {limit} {m} l z =
+        let e : n - i ≡ suc (n - (i + 1)) = omega arith in
+        let d : each * (n - i) ≡ each * (n - (i + 1)) + each = ap (λ n. each * n) e ∙ mul-suc each (n - (i + 1)) in
+        record {
+          within = omega arith;
+          has = k;
+          size = omega (
+            arith,
+            g.size,
+            z.size,
+            ap length (more s (n - i) (n - (i + 1)) e),
+            length-append (piece s) (texts piece on (on s) (n - (i + 1))),
+          );
+          most = omega (arith, g.most, z.most, d);
+        }
+
+    pub summed : n ≤ i → Sized (texts piece on first n) (each * n) sum
+    summed h =
+        let e : n - i ≡ 0 = omega arith in
+        record { size = omega (arith, g.size, ap length (none s (n - i) e)); most = omega (arith, g.most) }
+
+  -- the whole is what is written and what is to come
+  pub record Putting (first : S) (n : ℕ) (before : List ℕ) (s : S) (i : ℕ) (after : List ℕ) (at : ℕ) : Type 0 where
+    pub within : i ≤ n
+    pub has : Has s (n - i)
+    pub writing : Writing (texts piece on first n) before (texts piece on s (n - i)) after at
+
+  pub put_begun : (first : S) (n : ℕ) (before : List ℕ) → Has first n → length (texts piece on first n) ≤ length before
+      → Putting first n before first 0 before 0
+  put_begun first n before h fits =
+      let e : n - 0 ≡ n = omega arith in
       record {
-        size = omega (arith, g.size, z.size, ap length (more s n h), length-append (piece s) (texts piece on (on s) (n - 1)));
-        most = omega (arith, g.most, z.most, l);
+        within = omega arith;
+        has = rw e h;
+        writing = record { start = []; text = rw e refl; fits = fits; wrote = wrote_none before };
       }
 
-  pub sum-all : {whole : List ℕ} {limit bound sum : ℕ} (s : S) (n : ℕ) → n ≤ 0 → Summing whole (texts piece on s n) limit n bound sum
-      → Sized whole bound sum
-  sum-all s n h g = record { size = omega (arith, g.size, ap length (none s n h)); most = omega (arith, g.most) }
+  module _ {first : S} {n : ℕ} {before : List ℕ} {s : S} {i : ℕ} {after : List ℕ} {at : ℕ} (g : Putting first n before s i after at) where
+    coming : i < n → Writing (texts piece on first n) before (piece s ++ texts piece on (on s) (n - (i + 1))) after at
+    coming h = let e : n - i ≡ suc (n - (i + 1)) = omega arith in to_come (more s (n - i) (n - (i + 1)) e) g.writing
 
-  -- a text more, and all of them
-  module _ {whole before after : List ℕ} {at : ℕ} (s : S) (n : ℕ) (g : Writing whole before (texts piece on s n) after at) where
-    split : 0 < n → Writing whole before (piece s ++ texts piece on (on s) (n - 1)) after at
-    split h = to_come (more s n h) g
+    pub put_room : i < n → at + length (piece s) ≤ length after
+    put_room h = room (piece s) _ (coming h)
 
-    pub write_room : 0 < n → length (piece s) ≤ length (rest_of after at)
-    write_room h = lent-room (piece s) (texts piece on (on s) (n - 1)) (split h)
+    pub put_more : i < n → Has (on s) (n - (i + 1)) → {later : List ℕ} {m : ℕ} → WroteAt (piece s) at after later m
+        → Putting first n before (on s) (i + 1) later m
+    put_more h k w = record { within = omega arith; has = k; writing = next w _ (coming h) }
 
-    pub write_fits : 0 < n → {b d : List ℕ} {m : ℕ} → Wrote (piece s) b d m → at + m ≤ length after
-    write_fits h w = lent_fits (piece s) (texts piece on (on s) (n - 1)) (split h) w
-
-    pub write_more : 0 < n → {part : List ℕ} {m : ℕ} → Wrote (piece s) (rest_of after at) part m
-        → Writing whole before (texts piece on (on s) (n - 1)) (put_mid at (length after - at) after part) (at + m)
-    write_more h w = lent (piece s) (texts piece on (on s) (n - 1)) (split h) w
-
-    pub write_all : n ≤ 0 → Wrote whole before after at
-    write_all h = all (to_come (none s n h) g)
+    pub put_all : n ≤ i → Wrote (texts piece on first n) before after at
+    put_all h = let e : n - i ≡ 0 = omega arith in all (to_come (none s (n - i) e) g.writing)
 
 -- The texts of numbers, from i on, and one more: their size.
 module _ (piece : ℕ → List ℕ) where
@@ -115,3 +118,11 @@ module _ {S A : Type 0} (piece : S → List ℕ) (on : S → S) (text : A → Li
   texts_of e f step s (a ∷ xs) h =
       let x = step s a xs h in
       ap₂ (λ t u. t ++ u) x.0 (texts_of e f step (on s) xs x.1) ∙ sym (f a xs)
+
+-- Texts one behind the other, told by other things.
+module _ {S T : Type 0} (piece : S → List ℕ) (on : S → S) (text : T → List ℕ) (next : T → T) (of : T → S) where
+  pub texts_along : ((t : T) → piece (of t) ≡ text t) → ((t : T) → on (of t) ≡ of (next t))
+      → (t : T) (n : ℕ) → texts piece on (of t) n ≡ texts text next t n
+  unfolding texts
+  texts_along e f t zero = refl
+  texts_along e f t (suc n) = ap₂ (λ t u. t ++ u) (e t) (ap (λ s. texts piece on s n) (f t) ∙ texts_along e f (next t) n)

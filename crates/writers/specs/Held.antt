@@ -5,8 +5,8 @@ use Rattle.std.specs.Prelude.{ℕ, ◌-◌, ◌≤◌, true, false, cond, List, 
 use Rattle.meaning.specs.Places as places
 use Rattle.meaning.specs.Places.{Plain}
 use Rattle.writers.specs.Words.{bytes_of}
-use Rattle.writers.specs.declared.Kind.{Kind}
-use Rattle.writers.specs.declared.Kind.TheVariants.{Null, True, False, NonNeg, Neg, String}
+use Rattle.writers.specs.declared.plain.Kind.{Kind}
+use Rattle.writers.specs.declared.plain.Kind.TheVariants.{Null, True, False, NonNeg, Neg, String}
 
 -- the kind of a value by its number, and by the first of its words, which is an integer's
 unfoldable pub kind_in : ℕ → ℕ → Kind

@@ -1,5 +1,5 @@
 -- What the way's end says, at a row.
-use mathlib.Core.Path.{sym, ◌∙◌}
+use mathlib.Core.Path.{refl, sym, ◌∙◌}
 use Rattle.act.proofs.Giving.{finish_clear, finish-give}
 use Rattle.act.proofs.finish.Goals as goal
 
@@ -11,4 +11,4 @@ returns-then-is_delete c =
 pub returns : goal.returns
 returns c =
     finish-give c.args.o _ _ _ _ _ _ _ _ _ _ _ _ (sym c.is_delete.ensures ∙ c.if-is_delete.false)
-    c.given_in.ensures c.give.ensures
+    refl c.give.ensures

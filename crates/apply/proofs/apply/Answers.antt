@@ -1,30 +1,33 @@
 -- An operation is judged, and taken if it may be.
-use mathlib.Core.Path.{refl, sym, ◌∙◌}
+use mathlib.Core.Path.{refl, sym, ap, ◌∙◌}
+use Rattle.std.specs.Prelude.{Ok}
+use Rattle.std.proofs.lemmas.Result.{err_from_is_err_and}
+use Rattle.judging.specs.Judging.{judgement_of}
 use Rattle.judging.proofs.Judged.{judges_early, judges_refused, judges_ready}
 use Rattle.apply.proofs.Carrying.{takes_on, applies_refused, applies_taken}
 use Rattle.apply.proofs.apply.Goals as goal
 
-pub returns-then-not-is_taken : goal.returns-then-not-is_taken
-returns-then-not-is_taken c =
-    applies_refused _ _ _ c.args.op _
-    (judges_ready _ _ _ c.args.op _ c.judge_counters-readiness.ensures _ _ _ c.in-Ready.is
-    (c.top_of-top.ensures _ _ _ refl) c.judge_ready-j.ensures c.judgement_of-answer.ensures)
-    (sym c.is_taken.ensures ∙ c.if-not-is_taken.true)
+pub returns-in_err-readiness : goal.returns-in_err-readiness
+returns-in_err-readiness c =
+    let p = err_from_is_err_and c.from_residual.result c.from_residual.ensures.1 in
+    rw (p.1, p.2) (applies_refused _ c.args.op _ (judges_refused _ _ _ c.args.op _ c.judge_counters.ensures _ c.in_err-readiness.was) refl)
 
-pub returns-else-not-is_taken : goal.returns-else-not-is_taken
-returns-else-not-is_taken c =
-    applies_taken _ _ _ c.args.op _
-    (judges_ready _ _ _ c.args.op _ c.judge_counters-readiness.ensures _ _ _ c.in-Ready.is
-    (c.top_of-top.ensures _ _ _ refl) c.judge_ready-j.ensures c.judgement_of-answer.ensures)
-    _ _ (sym c.is_taken.ensures ∙ c.if-not-is_taken.false)
-    (takes_on _ _ _ c.args.op _ _ _ (c.top_of-top.ensures _ _ _ refl) c.take_at-later.ensures)
+pub returns-in_err-judge_ready-in-Ready : goal.returns-in_err-judge_ready-in-Ready
+returns-in_err-judge_ready-in-Ready c =
+    let r = c.from_residual-in_err-judge_ready-in-Ready in
+    let p = err_from_is_err_and r.result r.ensures.1 in
+    rw (p.1, p.2) (applies_refused _ c.args.op _ (judges_ready _ _ _ c.args.op _ c.judge_counters.ensures _ _ _
+    (c.in_ok-readiness.was ∙ ap Ok c.in-Ready.is) (c.top_of-top.ensures _ _ _ refl) c.judge_ready.ensures
+    (sym (ap judgement_of c.in_err-judge_ready-in-Ready.was))) refl)
+
+pub returns-in_ok-judge_ready-in-Ready : goal.returns-in_ok-judge_ready-in-Ready
+returns-in_ok-judge_ready-in-Ready c =
+    applies_taken _ c.args.op _ (judges_ready _ _ _ c.args.op _ c.judge_counters.ensures _ _ _
+    (c.in_ok-readiness.was ∙ ap Ok c.in-Ready.is) (c.top_of-top.ensures _ _ _ refl) c.judge_ready.ensures
+    (sym (ap judgement_of c.in_ok-judge_ready-in-Ready.was))) _ refl
+    (takes_on _ c.args.op _ _ (c.top_of-top.ensures _ _ _ refl) c.take_at.ensures)
 
 pub returns-in-Early : goal.returns-in-Early
 returns-in-Early c =
-    applies_refused _ _ _ c.args.op _
-    (judges_early _ _ _ c.args.op _ c.judge_counters-readiness.ensures c.in-Early.is) refl
-
-pub returns-in-Refused : goal.returns-in-Refused
-returns-in-Refused c =
-    applies_refused _ _ _ c.args.op _
-    (judges_refused _ _ _ c.args.op _ c.judge_counters-readiness.ensures _ c.in-Refused.is) refl
+    applies_refused _ c.args.op _
+    (judges_early _ _ _ c.args.op _ c.judge_counters.ensures (c.in_ok-readiness.was ∙ ap Ok c.in-Early.is)) refl

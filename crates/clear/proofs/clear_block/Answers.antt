@@ -7,53 +7,28 @@ use Rattle.clear.proofs.clear_block.Goals as goal
 
 pub returns-then-rows-heads : goal.returns-then-rows-heads
 returns-then-rows-heads c =
-    let t = c.if-rows-heads.true in
-    not_sitting c.args.d.at c.args.heads.now c.args.marks.now c.args.values.now c.args.c c.args.s
-    (λ z. omega arith)
-
-pub returns-then-row-rows : goal.returns-then-row-rows
-returns-then-row-rows c =
-    let t = c.if-row-rows.true in
-    not_sitting c.args.d.at c.args.heads.now c.args.marks.now c.args.values.now c.args.c c.args.s
-    (λ z. omega arith)
-
-pub returns-then-live-marks : goal.returns-then-live-marks
-returns-then-live-marks c =
-    let t = c.if-live-marks.true in
-    not_sitting c.args.d.at c.args.heads.now c.args.marks.now c.args.values.now c.args.c c.args.s
-    (λ z. omega arith)
-
-pub returns-then-mark-live : goal.returns-then-mark-live
-returns-then-mark-live c =
-    let t = c.if-mark-live.true in
-    not_sitting c.args.d.at c.args.heads.now c.args.marks.now c.args.values.now c.args.c c.args.s
-    (λ z. omega arith)
+    not_sitting c.args.d.at _ _ _ c.args.c c.args.s (λ z. elim c.then-rows-heads.branch [
+      | goal.then-rows-heads-via-then-rows-heads w ↦ omega arith
+      | goal.then-rows-heads-via-else-rows-heads+then-row-rows w ↦ omega arith
+      | goal.then-rows-heads-via-else-rows-heads+else-row-rows+then-live-marks w ↦ omega arith
+      | goal.then-rows-heads-via-else-rows-heads+else-row-rows+else-live-marks+then-mark-live w ↦ omega arith
+    ])
 
 pub returns-then-c-values : goal.returns-then-c-values
 returns-then-c-values c =
-    let t = c.if-c-values.true in
-    not_sitting c.args.d.at c.args.heads.now c.args.marks.now c.args.values.now c.args.c c.args.s
-    (λ z. omega arith)
-
-pub returns-then-s-c : goal.returns-then-s-c
-returns-then-s-c c =
-    let t = c.if-s-c.true in
-    not_sitting c.args.d.at c.args.heads.now c.args.marks.now c.args.values.now c.args.c c.args.s
-    (λ z. omega arith)
+    not_sitting c.args.d.at _ _ _ c.args.c c.args.s (λ z. elim c.then-c-values.branch [
+      | goal.then-c-values-via-then-c-values w ↦ omega arith
+      | goal.then-c-values-via-else-c-values+then-s-c w ↦ omega arith
+    ])
 
 pub returns-then-q-live : goal.returns-then-q-live
 returns-then-q-live c =
     let p = c.clear_place-q in
     let y = passing p.new.heads p.new.marks p.new.values p.result in
-    far_marks c.args.d.at c.args.heads.now c.args.marks.now c.args.values.now c.args.c c.args.s y
-    p.ensures c.if-q-live.true
-
-pub returns-then-q-words : goal.returns-then-q-words
-returns-then-q-words c =
-    let p = c.clear_place-q in
-    let y = passing p.new.heads p.new.marks p.new.values p.result in
-    far_values c.args.d.at c.args.heads.now c.args.marks.now c.args.values.now c.args.c c.args.s y
-    p.ensures c.if-q-words.true
+    elim c.then-q-live.branch [
+      | goal.then-q-live-via-then-q-live w ↦ far_marks c.args.d.at _ _ _ c.args.c c.args.s y p.ensures w.if-q-live.true
+      | goal.then-q-live-via-else-q-live+then-q-words w ↦ far_values c.args.d.at _ _ _ c.args.c c.args.s y p.ensures w.if-q-words.true
+    ]
 
 pub close-requires : goal.close-requires
 close-requires c =

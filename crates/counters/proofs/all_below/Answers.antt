@@ -1,25 +1,14 @@
-use mathlib.Core.Path.{refl, sym, ◌∙◌}
-use native.Mathlib.Omega.{arith}
-use Rattle.counters.proofs.Entries.{all_below_goes, all_below_stops, all_below_ends}
+use mathlib.Core.Path.{◌∙◌}
+use borrow.Author.Tests.{tests}
+use lib.Dec.{ltb}
+use Rattle.std.proofs.Common.{rules}
+use Rattle.std.proofs.lemmas.Iterator.{YieldsList-from_slice}
+use Rattle.std.proofs.lemmas.Iterator.Search.{all_from_yields_List}
+use Rattle.counters.proofs.Entries.{all_below_all}
 use Rattle.counters.proofs.all_below.Goals as goal
-
-pub returns-then-wide-c : goal.returns-then-wide-c
-returns-then-wide-c c =
-    let d = c.well_formed.1.0.1.1.0.1.0.1 in
-    sym (c.loop-k.invariant.1 ∙ all_below_stops c.args.d.at c.loop-k.k (omega arith) c.args.c (omega arith))
-
-pub loop-k-preserved : goal.loop-k-preserved
-loop-k-preserved c =
-    let d = c.well_formed.1.0.1.1.0.1.0.1 in (
-      omega arith,
-      c.loop-k.invariant.1 ∙ all_below_goes c.args.d.at c.loop-k.k (omega arith) c.args.c
-          (omega arith),
-    )
 
 pub returns : goal.returns
 returns c =
-    let d = c.well_formed.1.0.1.1.0.1.0.1 in
-    sym (c.loop-k.invariant.1 ∙ all_below_ends c.args.d.at c.loop-k.k (omega arith) c.args.c)
-
-pub loop-k-init : goal.loop-k-init
-loop-k-init c = (omega arith, refl)
+    all_from_yields_List (λ x. ltb x c.args.c) c.all.new.self _ c.all.result c.all.ensures.ran (YieldsList-from_slice c.args.d.at (cc))
+    (λ x b q k. search (rules, tests))
+    ∙ all_below_all c.args.c c.args.d.at

@@ -1,28 +1,16 @@
-use mathlib.Core.Path.{refl, sym, ◌∙◌}
+use mathlib.Core.Path.{◌∙◌}
 use native.Mathlib.Omega.{arith}
-use Rattle.counters.proofs.Entries.{at_most_goes, at_most_stops, at_most_ends}
+use borrow.Author.Tests.{tests}
+use lib.Dec.{leb}
+use Rattle.std.proofs.Common.{rules}
+use Rattle.std.proofs.lemmas.Iterator.{YieldsList-from_slice, YieldsList-from_zip}
+use Rattle.std.proofs.lemmas.Iterator.Search.{all_from_yields_List}
+use Rattle.counters.proofs.Entries.{at_most_all}
 use Rattle.counters.proofs.at_most.Goals as goal
-
-pub returns-then-d-k : goal.returns-then-d-k
-returns-then-d-k c =
-    let d = c.well_formed.0.1.1.0.1.0.1 in
-    let s = c.well_formed.1.0.1.1.0.1.0.1 in
-    sym (c.loop-k.invariant.1 ∙ at_most_stops c.args.d.at c.args.s.at c.loop-k.k (omega arith) (omega arith)
-    c.if-d-k.true)
-
-pub loop-k-preserved : goal.loop-k-preserved
-loop-k-preserved c =
-    let d = c.well_formed.0.1.1.0.1.0.1 in
-    let s = c.well_formed.1.0.1.1.0.1.0.1 in (
-      omega arith,
-      c.loop-k.invariant.1 ∙ at_most_goes c.args.d.at c.args.s.at c.loop-k.k (omega arith)
-          (omega arith) c.if-d-k.false,
-    )
 
 pub returns : goal.returns
 returns c =
-    let d = c.well_formed.0.1.1.0.1.0.1 in
-    sym (c.loop-k.invariant.1 ∙ at_most_ends c.args.d.at c.args.s.at c.loop-k.k (omega arith))
-
-pub loop-k-init : goal.loop-k-init
-loop-k-init c = (omega arith, refl)
+    all_from_yields_List (λ p. leb p.0 p.1) c.all.new.self _ c.all.result c.all.ensures.ran
+    (YieldsList-from_zip (YieldsList-from_slice c.args.d.at (cc)) (YieldsList-from_slice c.args.s.at (cc)))
+    (λ x b q k. search (rules, tests))
+    ∙ at_most_all c.args.d.at c.args.s.at (omega arith)

@@ -1,18 +1,13 @@
-use native.Mathlib.Omega.{arith}
-use Rattle.counters.proofs.Entries.{largest_goes, largest-ends}
+use mathlib.Core.Path.{◌≡◌, ◌∙◌}
+use Rattle.std.proofs.Common.{rules}
+use Rattle.std.specs.Option.{option_map, unwrap_or}
+use Rattle.std.proofs.lemmas.Iterator.{YieldsList-from_slice}
+use Rattle.std.proofs.lemmas.Iterator.Consumers.{max_from_yields_List}
+use Rattle.counters.proofs.Entries.{largest_max}
 use Rattle.counters.proofs.largest.Goals as goal
-use Rattle.counters.proofs.largest.Goals.{then-x-m, else-x-m}
-
-pub loop-k-preserved : goal.loop-k-preserved
-loop-k-preserved c =
-    let s = c.well_formed.0.1.1.0.1.0.1 in
-    let g = largest_goes c.args.s.at c.loop-k.k (omega arith) in
-    (omega arith, elim c.if-x-m.branch [ then-x-m w ↦ omega arith | else-x-m w ↦ omega arith ])
 
 pub returns : goal.returns
 returns c =
-    let s = c.well_formed.0.1.1.0.1.0.1 in
-    omega (arith, largest-ends c.args.s.at c.loop-k.k (omega arith))
-
-pub loop-k-init : goal.loop-k-init
-loop-k-init c = (omega arith, omega arith)
+    let s = c.args.s.at in
+    let e : c.map_or.result ≡ unwrap_or (option_map (λ x. x.now) c.max.result) 0 = search rules in
+    rw (max_from_yields_List _ c.max.result c.max.ensures.ran (YieldsList-from_slice s (cc))) at e ∙ largest_max s

@@ -4,7 +4,4 @@ use Prim.Native.Nat.{◌-◌, ◌^◌, ◌≤◌, ◌<◌}
 use Rattle.decimal.proofs.decimal_size.Given as goal
 
 abbrev pub invariant-loop-n : goal.invariant-loop-n
-invariant-loop-n l = (1 ≤ l.n) × (l.n ≤ 20) × (1 < l.n → 10 ^ (l.n - 1) ≤ l.v)
-
-abbrev pub decreases-loop-n : goal.decreases-loop-n
-decreases-loop-n l = 20 - l.n
+invariant-loop-n l = 1 < l.n → 10 ^ (l.n - 1) ≤ l.v

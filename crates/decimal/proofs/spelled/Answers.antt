@@ -6,29 +6,20 @@ use mathlib.Core.Path.{refl}
 use Rattle.decimal.proofs.Table.{power, width_is, width_low, width_some, width_most}
 use Rattle.decimal.proofs.spelled.Goals as goal
 
-pub returns-then-n-gt20 : goal.returns-then-n-gt20
-returns-then-n-gt20 c =
-    λ e. omega (arith, width_most c.args.v (omega arith))
+pub returns-then-n-eq1 : goal.returns-then-n-eq1
+returns-then-n-eq1 c = (refl, refl, width_is _ _ (omega arith) c.requires (λ h. absurd (omega arith)))
 
-pub returns-then-v-powers : goal.returns-then-v-powers
-returns-then-v-powers c =
-    λ e. omega (
-      arith,
-      width_low c.args.n c.args.v e (omega arith),
-      power _ (c.args.n - 1)
-          c.requires.0 (omega arith),
-    )
+pub returns-then-n-eq0 : goal.returns-then-n-eq0
+returns-then-n-eq0 c = elim c.then-n-eq0.branch [
+  | goal.then-n-eq0-via-then-n-eq0 w ↦ λ e. omega (arith, width_some c.args.v)
+  | goal.then-n-eq0-via-else-n-eq0+then-n-gt20 w ↦ λ e. omega (arith, width_most c.args.v (omega arith))
+  | goal.then-n-eq0-via-else-n-eq0+else-n-gt20+then-v-powers w ↦
+      λ e. omega (arith, width_low c.args.n c.args.v e (omega arith), power _ (c.args.n - 1) w.powers.ensures (omega arith))
+]
 
 pub returns : goal.returns
 returns c = (
   refl,
   refl,
-  width_is _ _ (omega arith) c.requires.1
-      (λ h. omega (arith, power _ (c.args.n - 1) c.requires.0 (omega arith))),
+  width_is _ _ (omega arith) c.requires (λ h. omega (arith, power _ (c.args.n - 1) c.powers.ensures (omega arith))),
 )
-
-pub returns-then-n-eq1 : goal.returns-then-n-eq1
-returns-then-n-eq1 c = (refl, refl, width_is _ _ (omega arith) c.requires.1 (λ h. absurd (omega arith)))
-
-pub returns-then-n-eq0 : goal.returns-then-n-eq0
-returns-then-n-eq0 c = λ e. omega (arith, width_some c.args.v)

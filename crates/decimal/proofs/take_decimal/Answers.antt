@@ -1,43 +1,52 @@
-use Prim.Native.Nat.{◌-◌}
+use Prim.Native.Nat.{ℕ, ◌+◌, ◌-◌, ◌*◌}
 use native.Mathlib.Omega.{arith}
-use mathlib.Core.Path.{refl}
+use mathlib.Core.Path.{refl, sym, ◌∙◌, subst}
 use lib.ListN.{get_or}
 use Rattle.meaning.specs.Ascii.{byte}
-use Rattle.decimal.proofs.Runs.{start, low_stops, high_stops, end_stops, more, above, settled}
+use Rattle.decimal.specs.Numbers.{Spells}
+use Rattle.decimal.proofs.Runs.{start, stops, end_stops, more, above, settled}
+use Rattle.decimal.proofs.Layouts.{refused}
 use Rattle.decimal.proofs.take_decimal.Goals as goal
 
-pub returns-then-b-lt48 : goal.returns-then-b-lt48
-returns-then-b-lt48 c =
-    settled _ _ _ _ _ c.loop-i.invariant _ refl (low_stops _ _ c.loop-i-test.true c.if-b-lt48.true)
-    c.spelled.result c.spelled.ensures
+pub loop-n-init : goal.loop-n-init
+loop-n-init c = start _ _ _ _ c.rest-rest.ensures
 
-pub returns-then-b-gt57 : goal.returns-then-b-gt57
-returns-then-b-gt57 c =
-    settled _ _ _ _ _ c.loop-i.invariant _ refl (high_stops _ _ c.loop-i-test.true c.if-b-gt57.true)
-    c.spelled-then-b-gt57.result c.spelled-then-b-gt57.ensures
+pub returns-then-not-is_ascii_digit : goal.returns-then-not-is_ascii_digit
+returns-then-not-is_ascii_digit c =
+    settled _ _ _ _ _ _ c.loop-n.invariant
+    (stops _ _ c.loop-n-test.true (sym c.is_ascii_digit.ensures.value ∙ c.if-not-is_ascii_digit.true)) _ c.spelled.ensures
 
-pub returns-then-tenth-v : goal.returns-then-tenth-v
-returns-then-tenth-v c =
-    above _ _ _ _ _ c.loop-i.invariant (get_or c.args.s.now c.loop-i.i 0 - byte "0")
-    (record { inside = c.loop-i-test.true; low = c.if-b-lt48.false; high = c.if-b-gt57.false; digit = refl })
-    (omega arith)
+pub returns-in_err-checked_mul : goal.returns-in_err-checked_mul
+returns-in_err-checked_mul c =
+    let digit = c.if-not-is_ascii_digit.ensures.cases in
+    refused _ c.from_residual.ensures
+    (above _ _ _ _ _ _ c.loop-n.invariant (c.loop-n.v * 10 + (get_or c.rest-rest.result.now c.loop-n.n 0 - byte "0"))
+    (record { inside = c.loop-n-test.true; low = digit.0; high = digit.1; goes = refl })
+    (omega (arith, c.in_err-checked_mul.ensures)))
 
-pub returns-then-max-w : goal.returns-then-max-w
-returns-then-max-w c =
-    above _ _ _ _ _ c.loop-i.invariant c.wide-d.result
-    (record { inside = c.loop-i-test.true; low = c.if-b-lt48.false; high = c.if-b-gt57.false; digit = omega arith })
-    (omega arith)
+pub returns-in_err-v : goal.returns-in_err-v
+returns-in_err-v c =
+    let digit = c.if-not-is_ascii_digit.ensures.cases in
+    refused _ c.from_residual-in_err-v.ensures
+    (above _ _ _ _ _ _ c.loop-n.invariant (c.in_ok-checked_mul.field-0 + c.from.result)
+    (record { inside = c.loop-n-test.true; low = digit.0; high = digit.1; goes = omega (arith, c.in_ok-checked_mul.ensures) })
+    (omega (arith, c.in_err-v.ensures)))
 
-pub loop-i-preserved : goal.loop-i-preserved
-loop-i-preserved c =
-    more _ _ _ _ _ c.loop-i.invariant c.wide-d.result
-    (record { inside = c.loop-i-test.true; low = c.if-b-lt48.false; high = c.if-b-gt57.false; digit = omega arith })
-    (omega arith)
+pub returns-then-max-v : goal.returns-then-max-v
+returns-then-max-v c =
+    let digit = c.if-not-is_ascii_digit.ensures.cases in
+    above _ _ _ _ _ _ c.loop-n.invariant c.in_ok-v.v
+    (record { inside = c.loop-n-test.true; low = digit.0; high = digit.1; goes = omega (arith, c.in_ok-checked_mul.ensures, c.in_ok-v.ensures) })
+    c.if-max-v.true
+
+pub loop-n-preserved : goal.loop-n-preserved
+loop-n-preserved c =
+    let digit = c.if-not-is_ascii_digit.ensures.cases in
+    more _ _ _ _ _ _ c.loop-n.invariant c.in_ok-v.v
+    (record { inside = c.loop-n-test.true; low = digit.0; high = digit.1; goes = omega (arith, c.in_ok-checked_mul.ensures, c.in_ok-v.ensures) })
+    c.if-max-v.false
 
 pub returns : goal.returns
 returns c =
-    settled _ _ _ _ _ c.loop-i.invariant _ refl (end_stops _ _ c.loop-i-test.false) c.spelled-2.result
-    c.spelled-2.ensures
-
-pub loop-i-init : goal.loop-i-init
-loop-i-init c = start _ _ _
+    settled _ _ _ _ _ _ c.loop-n.invariant (end_stops _ _ c.loop-n-test.false) _
+    (subst (λ (n : ℕ). Spells n c.loop-n.v (c.args.a + n) c.spelled-2.result) (omega arith) c.spelled-2.ensures)

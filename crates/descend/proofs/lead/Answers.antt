@@ -3,17 +3,13 @@ use Rattle.descend.proofs.Leading.{lead_row, lead_new, lead_none}
 use Rattle.descend.proofs.lead.Goals as goal
 
 pub returns-then-is_at : goal.returns-then-is_at
-returns-then-is_at c =
-    let k = c.is_at in
-    let f = c.find-at in
-    lead_row _ _ _ _ _ _ f.ensures _ _ k.ensures c.if-is_at.true
+returns-then-is_at c = lead_row _ _ _ _ _ _ _ _ c.find-at.ensures _ _ c.is_at.ensures c.if-is_at.true
 
-pub returns-then-make : goal.returns-then-make
-returns-then-make c =
-    lead_new _ _ _ _ _ _ c.find-at.ensures _ _ _ _ _ c.is_at.ensures c.if-is_at.false
-    c.if-make.true
-    c.open_row-counts.ensures
+pub returns-then-not-make : goal.returns-then-not-make
+returns-then-not-make c =
+    lead_none _ _ _ _ _ _ _ _ c.find-at.ensures _ _ c.is_at.ensures c.if-is_at.false c.if-not-make.true
 
 pub returns : goal.returns
 returns c =
-    lead_none _ _ _ _ _ _ c.find-at.ensures _ _ c.is_at.ensures c.if-is_at.false c.if-make.false
+    lead_new _ _ _ _ _ _ _ _ c.find-at.ensures _ _ _ _ _ c.is_at.ensures c.if-is_at.false c.if-not-make.false
+    c.open_row-counts.ensures

@@ -4,5 +4,5 @@ use Rattle.descend.proofs.reach.Goals as goal
 
 pub returns : goal.returns
 returns c =
-    lead_by _ _ _ _ _ _ _ _ _ _ c.lead.result c.search_of-w.ensures c.may_make-make.ensures
+    lead_by _ _ _ _ _ _ _ _ c.lead.result c.search_of-w.ensures c.may_make-make.ensures
     c.lead.ensures

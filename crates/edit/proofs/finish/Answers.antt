@@ -5,9 +5,9 @@ use Rattle.edit.proofs.finish.Goals as goal
 
 pub returns-then-buf-needed : goal.returns-then-buf-needed
 returns-then-buf-needed c =
-    finish-short _ _ _ _ _ c.args.op c.args.lines.now _ c.message_size-needed.ensures c.if-buf-needed.true
+    finish-short _ _ _ c.args.op _ _ c.message_head.ensures c.size-needed.ensures c.if-buf-needed.true
 
 pub returns : goal.returns
 returns c =
-    finish-applied _ _ _ _ _ c.args.op c.args.lines.now _ c.message_size-needed.ensures c.if-buf-needed.false _ _
-    c.take_at-o.ensures _ _ c.put_message-written.ensures _ _ _ c.settle-r.ensures
+    finish-applied _ _ _ c.args.op _ _ c.message_head.ensures c.size-needed.ensures c.if-buf-needed.false _ c.take_at.ensures _ _
+    c.put-written.ensures _ _ c.settle-settled.ensures

@@ -1,27 +1,17 @@
-use native.Mathlib.Omega.{arith}
-use Rattle.feed.proofs.Feeding.{going_none, going_on, going_ends}
+-- By the case of the next piece.
+use mathlib.Core.Path.{sym}
+use Rattle.feed.proofs.Feeding.{going_none, going_message, going_long, going_ends}
 use Rattle.feed.proofs.take_in.Goals as goal
 
-pub take_one-r-requires : goal.take_one-r-requires
-take_one-r-requires c =
-    c.loop-state.invariant.feeds.holds
+pub loop-next-init : goal.loop-next-init
+loop-next-init c = going_none _ _ _ _ c.requires
 
-pub returns-then-r : goal.returns-then-r
-returns-then-r c =
-    going_ends c.loop-state.invariant c.take_one-r.ensures c.if-r.true
+pub loop-next-preserved-in-Message : goal.loop-next-preserved-in-Message
+loop-next-preserved-in-Message c =
+    going_message c.loop-next.invariant _ c.in-Message.ensures.steps (sym c.in-Message.ensures.value) c.receive.ensures
 
-pub loop-state-smaller : goal.loop-state-smaller
-loop-state-smaller c =
-    omega (
-      arith,
-      c.take_one-r.ensures.onward c.if-r.false,
-      c.take_one-r.ensures.feeds.same,
-      c.take_one-r.ensures.feeds.holds.low,
-    )
+pub loop-next-preserved : goal.loop-next-preserved
+loop-next-preserved c = going_long c.loop-next.invariant c.in-TooLong.ensures.steps (sym c.in-TooLong.ensures.value)
 
-pub loop-state-preserved : goal.loop-state-preserved
-loop-state-preserved c =
-    going_on c.loop-state.invariant c.take_one-r.ensures c.if-r.false
-
-pub loop-state-init : goal.loop-state-init
-loop-state-init c = going_none _ _ _ _ _ _ c.requires
+pub returns-in-More : goal.returns-in-More
+returns-in-More c = going_ends c.loop-next.invariant c.in-More.ensures.steps (sym c.in-More.ensures.value)

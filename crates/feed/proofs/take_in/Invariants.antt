@@ -1,13 +1,10 @@
--- `feed::take_in` meets its contract. The invariant: what has been fed so far. Each piece ends behind the one before it. Assumes nothing.
+-- What has been fed so far. Each piece ends behind the one before it.
 use Prim.Native.Nat.{◌-◌}
-use Rattle.tables.specs.Holding.{four}
 use Rattle.feed.proofs.Feeding.{Going}
 use Rattle.feed.proofs.take_in.Given as goal
 
-abbrev pub invariant-loop-state : goal.invariant-loop-state
-invariant-loop-state l =
-    Going (four l.initial.heads l.initial.keys l.initial.marks l.initial.values) l.initial.waiting l.initial.state l.buf l.initial.cut l.last (four l.heads l.keys l.marks l.values) l.waiting l.state l.cut
+abbrev pub invariant-loop-next : goal.invariant-loop-next
+invariant-loop-next l = Going l.initial.m l.buf l.initial.cut l.last l.m l.cut
 
-abbrev pub decreases-loop-state : goal.decreases-loop-state
-decreases-loop-state l =
-    l.cut.to - l.cut.from
+abbrev pub decreases-loop-next : goal.decreases-loop-next
+decreases-loop-next l = l.cut.to - l.cut.from

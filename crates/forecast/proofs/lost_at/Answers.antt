@@ -1,16 +1,15 @@
 -- `forecast::lost_at` meets its contract. Assumes nothing.
-use borrow.Author.Tests.{not-true, not-false}
+use mathlib.Core.Path.{sym, ◌∙◌}
 use Rattle.forecast.proofs.Looks.{sight_none, sight_row, sight_block}
 use Rattle.forecast.proofs.lost_at.Goals as goal
 
-pub returns-then-not-s : goal.returns-then-not-s
-returns-then-not-s c =
-    sight_none _ _ _ _ _ c.args.plain _ (not-true _ c.if-not-s.true)
+pub returns-in_default : goal.returns-in_default
+returns-in_default c = sight_none _ _ _ _ _ c.args.o.now.deed _ c.in_default.is
 
-pub returns-then-plain : goal.returns-then-plain
-returns-then-plain c =
-    sight_row _ _ _ _ _ _ _ _ c.if-plain.true (not-false _ c.if-not-s.false) c.gone_row-g.ensures
+pub returns-then-gives_plain : goal.returns-then-gives_plain
+returns-then-gives_plain c =
+    sight_row _ _ _ _ _ _ _ _ _ c.in-Some.is (sym c.gives_plain.ensures ∙ c.if-gives_plain.true) c.gone_row-g.ensures
 
 pub returns : goal.returns
 returns c =
-    sight_block _ _ _ _ _ _ _ _ c.if-plain.false (not-false _ c.if-not-s.false) c.gone.ensures
+    sight_block _ _ _ _ _ _ _ _ _ c.in-Some.is (sym c.gives_plain.ensures ∙ c.if-gives_plain.false) c.gone.ensures

@@ -1,39 +1,23 @@
--- `merge_run::receive_all` meets its contract. The invariant: the run so far, of which the next turn is a part. Assumes nothing.
+-- `merge_run::receive_all` meets its contract: each turn is a part of the run. Assumes nothing.
 use native.Mathlib.Omega.{arith}
-use mathlib.Core.Path.{refl, ◌∙◌}
-use Rattle.merge_run.proofs.Running.{turning_none, turning_on, turning_ends}
+use Rattle.merge_run.proofs.Running.{going_none, going_on, takes_all, worn_out_lem}
 use Rattle.merge_run.proofs.receive_all.Goals as goal
 
-pub read_on-r-requires : goal.read_on-r-requires
-read_on-r-requires c =
-    record {
-      cut_inside = c.loop-turns.invariant.1.holds;
-      from_in_bounds = omega (arith, c.loop-turns.invariant.0, c.loop-turns.invariant.1.short, c.requires.in_bounds);
-    }
+pub loop-init : goal.loop-init
+loop-init c = going_none _ _
 
-pub take_in-f-requires : goal.take_in-f-requires
-take_in-f-requires c =
-    c.read_on-r.ensures.holds
+pub read_on-end-requires-clause-cut_inside : goal.read_on-end-requires-clause-cut_inside
+read_on-end-requires-clause-cut_inside c = c.loop.invariant.holds
 
-pub loop-turns-preserved-then-ended : goal.loop-turns-preserved-then-ended
-loop-turns-preserved-then-ended c = (
-  c.read_on-r.auto.buf ∙ c.loop-turns.invariant.0,
-  turning_ends c.loop-turns.invariant.1 (omega (arith, c.loop-turns-test.true)) c.read_on-r.ensures
-      c.take_in-f.ensures c.if-ended.true c.requires.keeps,
-)
+pub read_on-end-requires-clause-from_in_bounds : goal.read_on-end-requires-clause-from_in_bounds
+read_on-end-requires-clause-from_in_bounds c = omega (arith, c.loop.auto.buf, c.loop.invariant.short, c.requires.in_bounds)
 
-pub loop-turns-preserved : goal.loop-turns-preserved
-loop-turns-preserved c = (
-  c.read_on-r.auto.buf ∙ c.loop-turns.invariant.0,
-  turning_on c.loop-turns.invariant.1 (omega (arith, c.loop-turns-test.true)) c.read_on-r.ensures
-      c.take_in-f.ensures c.if-ended.false,
-)
+pub returns-in-Some : goal.returns-in-Some
+returns-in-Some c =
+    takes_all c.loop.invariant c.read_on-end.ensures c.is_some.ensures c.take_in-cut.ensures _ c.in-Some.is c.requires.keeps
 
-pub loop-turns-init : goal.loop-turns-init
-loop-turns-init c = (refl, turning_none _ _ _ _ _ refl)
-
-pub shape_of-buf : goal.shape_of-buf
-shape_of-buf c = c.loop-turns.invariant.0
+pub loop-preserved : goal.loop-preserved
+loop-preserved c = going_on c.loop.invariant c.read_on-end.ensures c.is_some.ensures c.take_in-cut.ensures c.in_default.is
 
 pub returns : goal.returns
-returns c = c.loop-turns.invariant.1.took (omega (arith, c.loop-turns-test.false))
+returns c = worn_out_lem _ c.loop.invariant (omega (arith, c.loop-test.false, c.loop.auto.counter-end))

@@ -1,14 +1,16 @@
 -- `readers::take_byte` meets its contract.
 -- Assumes nothing.
 use native.Mathlib.Omega.{arith}
-use Rattle.readers.proofs.Texts.{start, step, done, ends, differs}
+use mathlib.Core.Path.{◌∙◌}
+use Rattle.readers.proofs.Texts.{byte_at, byte_differs}
 use Rattle.readers.proofs.take_byte.Goals as goal
 
-pub returns-then-s-a-2 : goal.returns-then-s-a-2
-returns-then-s-a-2 c = differs _ _ _ _ _ (start _ _ _) (omega arith) c.if-s-a.false c.if-s-a-2.true
+pub returns-then-branch-b : goal.returns-then-branch-b
+returns-then-branch-b c =
+    let h = c.in_ok-get.ensures.lookup.3 in
+    byte_at _ _ _ h.0 (omega (arith, h.1 0))
 
-pub returns : goal.returns
-returns c = done _ _ _ _ _ (step _ _ _ _ _ (start _ _ _) (omega arith) c.if-s-a.false c.if-s-a-2.false) (omega arith)
-
-pub returns-then-s-a : goal.returns-then-s-a
-returns-then-s-a c = ends _ _ _ _ _ (start _ _ _) (omega arith) c.if-s-a.true
+pub returns-else-branch-b : goal.returns-else-branch-b
+returns-else-branch-b c =
+    let h = c.in_ok-get.ensures.lookup.3 in
+    byte_differs _ _ _ h.0 (λ e. c.if-branch-b.false (h.1 0 ∙ e))

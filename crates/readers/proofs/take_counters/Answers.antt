@@ -1,34 +1,25 @@
+use Prim.Native.Nat.{ℕ}
 use native.Mathlib.Omega.{arith}
-use mathlib.Core.Path.{refl}
-use lib.ListN.{replicate}
-use Rattle.decimal.proofs.Runs.{number_took, number_none}
-use Rattle.readers.proofs.Commas.{none, start, step, refuse, done}
+use mathlib.Core.Path.{refl, subst}
+use mathlib.Core.List.{◌∷◌, append-nil}
+use lib.ListN.{replicate, set}
+use Rattle.readers.proofs.Commas.{State, start, step, refuse, done, counters_refused}
 use Rattle.readers.proofs.take_counters.Goals as goal
 
-pub returns-in_default : goal.returns-in_default
-returns-in_default c = none _ _ (number_none _ c.in_default.is c.take_decimal.ensures)
+pub loop-counter-init : goal.loop-counter-init
+loop-counter-init c = start _ _ _ _ (replicate 8 0) refl c.in_ok-first.ensures
 
-pub overflow_cast-v : goal.overflow_cast-v
-overflow_cast-v c =
-    omega (arith, (number_took _ c.in-Value.is c.take_decimal.ensures).valid)
+pub returns-in_err-x : goal.returns-in_err-x
+returns-in_err-x c =
+    counters_refused _ c.from_residual-in_err-x.ensures
+    (refuse _ _ _ _ _ c.loop-counter.invariant (omega (arith, c.loop-counter.invariant.long)) c.in_err-x.ensures)
 
-pub loop-i-init : goal.loop-i-init
-loop-i-init c =
-    start _ _ _ _ (replicate 8 0) refl (number_took _ c.in-Value.is c.take_decimal.ensures)
-
-pub returns-in_default-take_comma : goal.returns-in_default-take_comma
-returns-in_default-take_comma c =
-    refuse _ _ _ _ _ c.loop-i.invariant c.loop-i-test.true
-    (number_none _ c.in_default-take_comma.is c.take_comma.ensures)
-
-pub overflow_cast-v-in-loop-i : goal.overflow_cast-v-in-loop-i
-overflow_cast-v-in-loop-i c =
-    omega (arith, (number_took _ c.in-Value-take_comma.is c.take_comma.ensures).valid)
-
-pub loop-i-preserved : goal.loop-i-preserved
-loop-i-preserved c =
-    step _ _ _ _ _ c.loop-i.invariant c.loop-i-test.true _ _
-    (number_took _ c.in-Value-take_comma.is c.take_comma.ensures)
+pub loop-counter-preserved : goal.loop-counter-preserved
+loop-counter-preserved c =
+    subst
+    (λ (i : ℕ). State c.args.s.now c.args.a i c.in_ok-x.next (c.in_ok-first.first ∷ set c.loop-counter.counter-items c.loop-counter.counter-index c.in_ok-x.x))
+    (omega arith)
+    (step _ _ _ _ _ c.loop-counter.invariant (omega (arith, c.loop-counter.invariant.long)) _ _ c.in_ok-x.ensures)
 
 pub returns : goal.returns
-returns c = done _ _ _ _ _ c.loop-i.invariant c.loop-i-test.false
+returns c = simp append-nil (done _ _ _ _ _ c.loop-counter.invariant (omega (arith, c.loop-counter.invariant.long)))

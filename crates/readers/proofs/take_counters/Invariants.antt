@@ -1,12 +1,10 @@
--- `readers::take_counters` meets its contract. The loop's invariant, `State`: the first i counters stand from a to n, and the others
--- would follow there.
+-- `readers::take_counters` meets its contract. The loop's invariant, `State`: the first counter and those that the loop has passed stand
+-- from a to n, and the others would follow there.
 -- Assumes nothing.
-use Prim.Native.Nat.{◌-◌}
+use Prim.Native.Nat.{suc}
+use mathlib.Core.List.{◌∷◌}
 use Rattle.readers.proofs.Commas.{State}
 use Rattle.readers.proofs.take_counters.Given as goal
 
-abbrev pub invariant-loop-i : goal.invariant-loop-i
-invariant-loop-i l = State l.s l.a l.i l.n l.v
-
-abbrev pub decreases-loop-i : goal.decreases-loop-i
-decreases-loop-i l = 8 - l.i
+abbrev pub invariant-loop-counter : goal.invariant-loop-counter
+invariant-loop-counter l = State l.s l.a (suc l.counter-index) l.n (l.first ∷ l.counter-items)

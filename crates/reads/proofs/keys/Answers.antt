@@ -1,24 +1,23 @@
--- `reads::keys` meets its contract: 14, 1, the root's keys, those of the place where the way leads. Assumes nothing.
-use mathlib.Core.Path.{sym, ◌∙◌}
-use borrow.Author.Tests.{not-true, not-false}
-use Rattle.reads.proofs.Asks.{too_many, bad_way, keys-room, keys-asked, root_asked}
+-- `reads::keys` meets its contract: 14, the root's keys, those of the place where the way leads. Assumes nothing.
+use mathlib.Core.Path.{sym}
+use Rattle.reads.proofs.Gives.{gives_absent, gives_keys}
+use Rattle.reads.proofs.Asks.{too_many, keys-room, keys-asked, root_asked}
 use Rattle.reads.proofs.keys.Goals as goal
 
-pub returns-then-not-read : goal.returns-then-not-read
-returns-then-not-read c =
-    bad_way _ _ _ _ _ _ _ (sym c.within.ensures ∙ c.if-not-within.false) c.take_keys_way-read.ensures
-    (not-true _ c.if-not-read.true)
+pub returns-then-not-within : goal.returns-then-not-within
+returns-then-not-within c = too_many _ _ _ _ _ _ _ (keys-room c.args.d.now) (sym c.if-not-within.ensures)
 
 pub returns-then-led-eq0 : goal.returns-then-led-eq0
 returns-then-led-eq0 c =
-    root_asked _ _ _ _ _ _ _ (sym c.within.ensures ∙ c.if-not-within.false) c.take_keys_way-read.result
-    (not-false _ c.if-not-read.false) c.take_keys_way-read.ensures c.if-led-eq0.true c.keys.ensures
+    root_asked c.args.d.now _ _ _ _ (sym c.if-not-within.ensures) _ c.in_ok-led.ensures.ok_part c.take_keys_way.ensures c.if-led-eq0.true
+    c.keys.ensures
+
+pub returns-in_default : goal.returns-in_default
+returns-in_default c =
+    keys-asked c.args.d.now _ _ _ _ (sym c.if-not-within.ensures) _ c.in_ok-led.ensures.ok_part _ c.in_default.ensures
+    c.take_keys_way.ensures c.if-led-eq0.false (gives_absent _ _ _ _ _)
 
 pub returns : goal.returns
 returns c =
-    keys-asked _ _ _ _ _ _ _ (sym c.within.ensures ∙ c.if-not-within.false) c.take_keys_way-read.result
-    (not-false _ c.if-not-read.false) c.place_at-found.result c.place_at-found.ensures c.take_keys_way-read.ensures
-    c.if-led-eq0.false c.keys_there.ensures
-
-pub returns-then-not-within : goal.returns-then-not-within
-returns-then-not-within c = too_many _ _ _ _ _ _ _ keys-room (sym c.within.ensures ∙ c.if-not-within.true)
+    keys-asked c.args.d.now _ _ _ _ (sym c.if-not-within.ensures) _ c.in_ok-led.ensures.ok_part _ c.in-Ok.ensures c.take_keys_way.ensures
+    c.if-led-eq0.false (gives_keys _ _ _ _ _ c.next_row-next.ensures _ _ _ _ c.keys-2.ensures)

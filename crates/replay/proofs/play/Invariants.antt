@@ -4,10 +4,5 @@ use lib.ListN.{length}
 use Rattle.stream.specs.Pieces.{CutInside}
 use Rattle.replay.proofs.play.Given as goal
 
-abbrev pub invariant-loop-turns : goal.invariant-loop-turns
-invariant-loop-turns l =
-    (length l.buf ≡ length l.initial.buf) × CutInside l.buf l.cut
-
-abbrev pub decreases-loop-turns : goal.decreases-loop-turns
-decreases-loop-turns l =
-    l.turns
+abbrev pub invariant-loop : goal.invariant-loop
+invariant-loop l = (length l.buf ≡ length l.initial.buf) × CutInside l.buf l.cut

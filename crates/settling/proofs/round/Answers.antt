@@ -1,23 +1,17 @@
--- `settling::round` meets its contract: what was found by the sweep is applied and taken out. Assumes nothing.
-use native.Mathlib.Omega.{arith}
-use borrow.Author.Tests.{not-true, not-false}
-use Rattle.settling.proofs.Rounds.{rounds_over, rounds_cut, rounds_on}
+-- What was found by the sweep is taken out and applied.
+use Rattle.settling.proofs.Rounds.{rounds_over, rounds_none, rounds_cut, rounds_on}
 use Rattle.settling.proofs.round.Goals as goal
 
-pub returns-then-not-w : goal.returns-then-not-w
-returns-then-not-w c =
-    rounds_over _ _ _ _ _ c.sweep-w.ensures (not-true _ c.if-not-w.true)
+pub returns-in_default : goal.returns-in_default
+returns-in_default c = rounds_over _ _ _ c.sweep-able.ensures c.in_default.is
 
-pub returns-then-left-n : goal.returns-then-left-n
-returns-then-left-n c =
-    rounds_cut _ _ _ _ _ c.sweep-w.ensures (not-false _ c.if-not-w.false) _ _ c.take_out-left.ensures
-    c.if-left-n.true
+pub returns-in_default-op_at : goal.returns-in_default-op_at
+returns-in_default-op_at c = rounds_none _ _ _ c.sweep-able.ensures _ c.in-Some.is c.in_default-op_at.ensures
 
-pub shape_of-waiting : goal.shape_of-waiting
-shape_of-waiting c =
-    omega (arith, c.take_out-left.auto.t, c.sweep-w.auto.waiting)
+pub returns-then-left-m : goal.returns-then-left-m
+returns-then-left-m c =
+    rounds_cut _ _ _ c.sweep-able.ensures _ c.in-Some.is _ _ c.take_out-left.ensures c.if-left-m.true
 
 pub returns : goal.returns
 returns c =
-    rounds_on _ _ _ _ _ c.sweep-w.ensures (not-false _ c.if-not-w.false) _ _ c.take_out-left.ensures _
-    c.op_at-op.ensures _ _ c.take-o.ensures c.if-left-n.false
+    rounds_on _ _ _ c.sweep-able.ensures _ c.in-Some.is _ _ c.take_out-left.ensures _ c.in-Some-op_at.ensures _ c.take.ensures c.if-left-m.false

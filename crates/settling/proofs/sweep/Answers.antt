@@ -1,67 +1,78 @@
+-- The operation at the index is passed, or dropped, or noted as the first that can be applied.
 use native.Mathlib.Omega.{arith}
-use mathlib.Core.Path.{refl, sym, ◌∙◌}
+use mathlib.Core.Path.{refl, sym, ap, ◌∙◌}
+use mathlib.Core.Bool.{not}
 use Rattle.settling.proofs.Looking.{looks_early}
-use Rattle.settling.proofs.Sweeping.{begins, ends, drops, one_less, passes, notes, passes_early}
+use Rattle.settling.proofs.Sweeping.{begins, ends, drops, one_less, looked, passes, notes, passes_idle}
+use Rattle.settling.proofs.sweep.Goals.{then-is_none+then-is_taken, else-is_none}
+use Rattle.settling.proofs.sweep.Goals.{else-is_none-via-then-is_none+else-is_taken, else-is_none-via-else-is_none}
 use Rattle.settling.proofs.sweep.Goals as goal
 
 pub loop-i-preserved-then-early : goal.loop-i-preserved-then-early
 loop-i-preserved-then-early c = (
   c.loop-i.invariant.0,
   c.loop-i.invariant.1,
-  c.loop-i.invariant.2,
   λ X K.
-      passes_early _ _ _ X _ _ _ _ (looks_early _ _ _ _ _ _ c.loop-i.invariant.2 c.early.ensures c.if-early.true)
-      (c.loop-i.invariant.3 X K) c.loop-i-test.true refl refl,
+      passes_idle _ X _ _ _ (looks_early _ _ _ c.early.ensures c.if-early.true) (c.loop-i.invariant.2 X K) c.loop-i-test.true refl refl,
 )
 
 pub returns-then-left-n : goal.returns-then-left-n
 returns-then-left-n c =
     record {
       fewer = c.loop-i.invariant.0;
+      document = c.loop-i.invariant.1;
       sweeps = λ X K.
           absurd (omega (
             arith,
             c.if-left-n.true,
-            one_less _ _ _ X _ _ _ _ c.look-j.ensures (c.loop-i.invariant.3 X K)
-                c.loop-i-test.true _ _ c.take_out-left.ensures,
+            one_less _ X _ _ _ c.in_ok-j.ensures (c.loop-i.invariant.2 X K) c.loop-i-test.true _ _ c.take_out-left.ensures,
           ));
     }
+
+pub returns-in_err-j : goal.returns-in_err-j
+returns-in_err-j c =
+    rw c.from_residual.ensures (record {
+      fewer = c.loop-i.invariant.0;
+      document = c.loop-i.invariant.1;
+      sweeps = λ X K. absurd (looked _ X _ _ c.in_err-j.ensures (c.loop-i.invariant.2 X K) c.loop-i-test.true);
+    })
 
 pub loop-i-preserved-then-is_dead : goal.loop-i-preserved-then-is_dead
 loop-i-preserved-then-is_dead c = (
   omega (arith, c.loop-i.invariant.0, c.if-left-n.false),
-  omega (arith, c.loop-i.invariant.1, c.take_out-left.auto),
-  c.loop-i.invariant.2,
-  λ X K.
-      drops _ _ _ X _ _ _ _ c.look-j.ensures (c.loop-i.invariant.3 X K) c.loop-i-test.true _ _
-      c.take_out-left.ensures (sym c.is_dead.ensures ∙ c.if-is_dead.true),
-)
-
-pub loop-i-preserved-then-not-found : goal.loop-i-preserved-then-not-found
-loop-i-preserved-then-not-found c = (
-  c.loop-i.invariant.0,
   c.loop-i.invariant.1,
-  c.loop-i.invariant.2,
   λ X K.
-      notes _ _ _ X _ _ _ _ c.look-j.ensures (c.loop-i.invariant.3 X K) c.loop-i-test.true
-      (sym c.is_dead.ensures ∙ c.if-is_dead.false) c.if-not-found.true _ c.is_taken-found.ensures,
+      drops _ X _ _ _ c.in_ok-j.ensures (c.loop-i.invariant.2 X K) c.loop-i-test.true _ _ c.take_out-left.ensures
+      (sym c.is_dead.ensures ∙ c.if-is_dead.true),
 )
 
 pub loop-i-preserved : goal.loop-i-preserved
-loop-i-preserved c = (
-  c.loop-i.invariant.0,
-  c.loop-i.invariant.1,
-  c.loop-i.invariant.2,
-  λ X K.
-      passes _ _ _ X _ _ _ _ c.look-j.ensures (c.loop-i.invariant.3 X K) c.loop-i-test.true
-      (sym c.is_dead.ensures ∙ c.if-is_dead.false) c.if-not-found.false,
-)
+loop-i-preserved c =
+    let dead = sym c.is_dead.ensures ∙ c.if-is_dead.false in (
+      c.loop-i.invariant.0,
+      c.loop-i.invariant.1,
+      λ X K.
+          let S = c.loop-i.invariant.2 X K in
+          elim c.if-is_none.branch [
+            | then-is_none+then-is_taken w ↦
+                rw w.able-is (notes _ X _ _ _ c.in_ok-j.ensures S c.loop-i-test.true dead (c.is_none.ensures ∙ ap not w.if-is_none.true)
+                (sym w.is_taken.ensures ∙ w.if-is_taken.true))
+            | else-is_none w ↦
+                rw w.able-is (elim w.else-is_none.branch [
+                  | else-is_none-via-then-is_none+else-is_taken v ↦
+                      passes_idle _ X _ _ _ c.in_ok-j.ensures S c.loop-i-test.true dead (sym v.is_taken.ensures ∙ v.if-is_taken.false)
+                  | else-is_none-via-else-is_none v ↦
+                      passes _ X _ _ _ c.in_ok-j.ensures S c.loop-i-test.true dead (c.is_none.ensures ∙ ap not v.if-is_none.false)
+                ])
+          ],
+    )
 
 pub returns : goal.returns
 returns c = record {
   fewer = c.loop-i.invariant.0;
-  sweeps = λ X K. ends _ _ _ X _ _ _ (c.loop-i.invariant.3 X K) c.loop-i-test.false;
+  document = c.loop-i.invariant.1;
+  sweeps = λ X K. ends _ X _ _ (c.loop-i.invariant.2 X K) c.loop-i-test.false;
 }
 
 pub loop-i-init : goal.loop-i-init
-loop-i-init c = (omega arith, refl, refl, λ X K. begins _ _ _ X K)
+loop-i-init c = (omega arith, refl, λ X K. begins _ X K)

@@ -6,8 +6,8 @@ use Rattle.steps.proofs.Flags.{flags}
 use Rattle.steps.proofs.flag_row.Goals as goal
 
 pub returns-then-row-heads : goal.returns-then-row-heads
-unfolding Flags
-returns-then-row-heads c = λ k m v n A R r H e. absurd (omega (arith, row_in A r R _ n H, c.if-row-heads.true, e))
+returns-then-row-heads c = flags _ _ _ _ c.with_flag.ensures
 
-pub returns : goal.returns
-returns c = flags _ _ _ _ c.with_flag.ensures
+pub returns-else-row-heads : goal.returns-else-row-heads
+unfolding Flags
+returns-else-row-heads c = λ k m v n A R r H e. absurd (omega (arith, row_in A r R _ n H, c.if-row-heads.false, e))

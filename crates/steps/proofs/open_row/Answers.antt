@@ -1,35 +1,25 @@
 -- `steps::open_row` meets its contract: the row's words are put in. Assumes nothing.
 use native.Mathlib.Omega.{arith}
-use Rattle.tables.specs.Finds.{side_small}
 use Rattle.steps.specs.Steps.{Opens}
 use Rattle.steps.proofs.Opened.{room, opens}
 use Rattle.steps.proofs.open_row.Goals as goal
 
+-- where a row has room, no test sends it back
 pub returns-then-rows-ge-ROWS_ROOM : goal.returns-then-rows-ge-ROWS_ROOM
 unfolding Opens
-returns-then-rows-ge-ROWS_ROOM c = λ m v A R p H x l n g w t. absurd (omega (arith, l, c.if-rows-ge-ROWS_ROOM.true))
-
-pub returns-then-at-rows : goal.returns-then-at-rows
-unfolding Opens
-returns-then-at-rows c = λ m v A R p H x l n g w t. absurd (omega (arith, (room _ _ m v _ A R _ H x l).among, c.if-at-rows.true))
-
-pub returns-then-depth-gt-DEEPEST : goal.returns-then-depth-gt-DEEPEST
-unfolding Opens
-returns-then-depth-gt-DEEPEST c = λ m v A R p H x l n g w t. absurd (omega (arith, n, c.if-depth-gt-DEEPEST.true))
-
-pub returns-then-side-gt-LIST : goal.returns-then-side-gt-LIST
-unfolding Opens
-returns-then-side-gt-LIST c = λ m v A R p H x l n g w t. absurd (omega (arith, t, side_small p, c.if-side-gt-LIST.true))
-
-pub returns-then-heads-rows : goal.returns-then-heads-rows
-unfolding Opens
-returns-then-heads-rows c = λ m v A R p H x l n g w t. absurd (omega (arith, (room _ _ m v _ A R _ H x l).heads, c.if-heads-rows.true))
-
-pub returns-then-keys-rows : goal.returns-then-keys-rows
-unfolding Opens
-returns-then-keys-rows c = λ m v A R p H x l n g w t. absurd (omega (arith, (room _ _ m v _ A R _ H x l).keys, c.if-keys-rows.true))
+returns-then-rows-ge-ROWS_ROOM c = λ m v A R p H x l n g w t.
+    let o = room _ _ m v _ A R _ H x l in
+    absurd (elim c.then-rows-ge-ROWS_ROOM.branch [
+      | goal.then-rows-ge-ROWS_ROOM-via-then-rows-ge-ROWS_ROOM w ↦ omega (arith, l)
+      | goal.then-rows-ge-ROWS_ROOM-via-else-rows-ge-ROWS_ROOM+then-at-rows w ↦ omega (arith, o.among)
+      | goal.then-rows-ge-ROWS_ROOM-via-else-rows-ge-ROWS_ROOM+else-at-rows+then-depth-gt-DEEPEST w ↦ omega (arith, n)
+      | goal.then-rows-ge-ROWS_ROOM-via-else-rows-ge-ROWS_ROOM+else-at-rows+else-depth-gt-DEEPEST+then-heads-rows w ↦
+          omega (arith, o.heads)
+      | goal.then-rows-ge-ROWS_ROOM-via-else-rows-ge-ROWS_ROOM+else-at-rows+else-depth-gt-DEEPEST+else-heads-rows+then-keys-rows w ↦
+          omega (arith, o.keys)
+    ])
 
 pub returns : goal.returns
 returns c =
     opens _ _ _ _ _ _ _ _ _ _ _ _ _ c.if-at-rows.false c.if-heads-rows.false c.if-keys-rows.false
-    c.«open».ensures c.open-2.ensures c.write3.ensures c.new_head.ensures
+    c.«open».ensures c.open-2.ensures c.lay.ensures c.new_head.ensures

@@ -1,12 +1,7 @@
 -- `stream::next_message` meets its contract. The loop's invariant, `Searching`: no message ends from a to e.
 -- Assumes nothing.
-use Prim.Native.Nat.{◌-◌}
-use lib.ListN.{length}
 use Rattle.stream.proofs.Ending.{Searching}
 use Rattle.stream.proofs.next_message.Given as goal
 
 abbrev pub invariant-loop-e : goal.invariant-loop-e
 invariant-loop-e l = Searching l.s l.a l.e
-
-abbrev pub decreases-loop-e : goal.decreases-loop-e
-decreases-loop-e l = length l.s - l.e

@@ -2,6 +2,7 @@
 -- Assumes nothing.
 use native.Mathlib.Omega.{arith}
 use mathlib.Core.Path.{sym, ap, subst, ◌∙◌}
+use mathlib.Core.Logic.{inl, inr}
 use lib.Seq.{length-take-le}
 use Rattle.stream.specs.Pieces.{Waits, Steps}
 use Rattle.stream.specs.declared.Step.TheVariants.{More}
@@ -12,33 +13,35 @@ pub slice_bounds-next_message-end : goal.slice_bounds-next_message-end
 slice_bounds-next_message-end c =
     sym (length-take-le _ _ c.requires.high)
 
-pub returns-then-e-to : goal.returns-then-e-to
-returns-then-e-to c = record {
-  steps = subst (Steps c.args.buf.now c.args.c c.args.last) (sym c.hand.ensures)
-      (hands_inside c.args.buf.now c.args.c c.requires c.next_message-e.result
-      c.next_message-e.ensures c.if-from-to.false c.args.last c.if-e-to.true);
-  value = c.hand.ensures ∙ step_inside c.args.buf.now c.args.c c.requires c.next_message-e.result
-      c.next_message-e.ensures c.if-from-to.false c.args.last c.if-e-to.true;
-}
-
 pub returns-then-last : goal.returns-then-last
-returns-then-last c = record {
-  steps = subst (Steps c.args.buf.now c.args.c c.args.last) (sym c.hand-then-last.ensures)
-      (hands_last c.args.buf.now c.args.c c.requires c.next_message-e.result
-      c.next_message-e.ensures c.if-from-to.false c.args.last c.if-last.true);
-  value = c.hand-then-last.ensures ∙ step-last c.args.buf.now c.args.c c.requires c.next_message-e.result
-      c.next_message-e.ensures c.if-from-to.false c.args.last c.if-last.true;
-}
+returns-then-last c =
+    let b = c.args.buf.now in
+    let k = c.args.c in
+    let e = c.next_message-e.result in
+    elim c.if-last.either [
+      | inl h ↦ record {
+        steps = subst (Steps b k c.args.last) (sym c.hand.ensures)
+            (hands_inside b k c.requires e c.next_message-e.ensures c.if-from-to.false c.args.last h);
+        value = c.hand.ensures ∙ step_inside b k c.requires e c.next_message-e.ensures c.if-from-to.false c.args.last h;
+      }
+      | inr h ↦ record {
+        steps = subst (Steps b k c.args.last) (sym c.hand.ensures)
+            (hands_last b k c.requires e c.next_message-e.ensures c.if-from-to.false c.args.last h.1);
+        value = c.hand.ensures ∙ step-last b k c.requires e c.next_message-e.ensures c.if-from-to.false c.args.last h.1;
+      }
+    ]
 
-pub returns : goal.returns
-returns c = record {
-  steps = subst (Waits c.args.buf.now c.args.c c.args.last) (sym c.wait.ensures)
-      (holds_back c.args.buf.now c.args.c c.requires c.next_message-e.result
-      c.next_message-e.ensures c.if-from-to.false c.args.last c.if-e-to.false c.if-last.false);
-  value = ap More c.wait.ensures ∙ step_back c.args.buf.now c.args.c c.requires
-      c.next_message-e.result c.next_message-e.ensures c.if-from-to.false c.args.last
-      c.if-e-to.false c.if-last.false;
-}
+pub returns-else-last : goal.returns-else-last
+returns-else-last c =
+    let b = c.args.buf.now in
+    let k = c.args.c in
+    let e = c.next_message-e.result in
+    let h = c.if-last.false in
+    record {
+      steps = subst (Waits b k c.args.last) (sym c.wait.ensures)
+          (holds_back b k c.requires e c.next_message-e.ensures c.if-from-to.false c.args.last h.0 h.1);
+      value = ap More c.wait.ensures ∙ step_back b k c.requires e c.next_message-e.ensures c.if-from-to.false c.args.last h.0 h.1;
+    }
 
 pub returns-then-from-to : goal.returns-then-from-to
 returns-then-from-to c = record {
@@ -48,6 +51,3 @@ returns-then-from-to c = record {
 
 pub hand-requires : goal.hand-requires
 hand-requires c = omega (arith, c.next_message-e.ensures.place)
-
-pub hand-requires-then-last : goal.hand-requires-then-last
-hand-requires-then-last c = omega (arith, c.next_message-e.ensures.place)

@@ -6,8 +6,8 @@ use Rattle.tables.proofs.find.Goals as goal
 pub returns-then-may_begin : goal.returns-then-may_begin
 returns-then-may_begin c = λ m v e A B pass H q b g. c.seek.ensures ∙ search_stops _ _ m v e A B H _ pass _ _ q b g
 
-pub returns : goal.returns
-returns c = λ m v e A B pass H q b g. absurd ((rw c.if-may_begin.false at c.may_begin.ensures) (may_search _ _ m v e A B H _ _ q b))
+pub returns-else-may_begin : goal.returns-else-may_begin
+returns-else-may_begin c = λ m v e A B pass H q b g. absurd ((rw c.if-may_begin.false at c.may_begin.ensures) (may_search _ _ m v e A B H _ _ q b))
 
 pub seek-requires : goal.seek-requires
 seek-requires c = rw c.if-may_begin.true at c.may_begin.ensures

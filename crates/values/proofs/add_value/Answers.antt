@@ -6,21 +6,17 @@ use Rattle.tables.specs.Placed.{placed}
 use Rattle.values.proofs.Added.{adds}
 use Rattle.values.proofs.add_value.Goals as goal
 
+-- where the row stands and a value has room, no test sends it back
 pub returns-then-row-heads : goal.returns-then-row-heads
 unfolding Adds
-returns-then-row-heads c = λ k m A R r x H t u l w. absurd (omega (arith, (placed _ _ _ A R r H t).row, c.if-row-heads.true))
-
-pub returns-then-live-ge-VALUES_ROOM : goal.returns-then-live-ge-VALUES_ROOM
-unfolding Adds
-returns-then-live-ge-VALUES_ROOM c = λ k m A R r x H t u l w. absurd (omega (arith, l, c.if-live-ge-VALUES_ROOM.true))
-
-pub returns-then-values-live : goal.returns-then-values-live
-unfolding Adds
-returns-then-values-live c = λ k m A R r x H t u l w. absurd (omega (arith, (placed _ _ _ A R r H t).values_long, l, c.if-values-live.true))
-
-pub returns-then-first-live : goal.returns-then-first-live
-unfolding Adds
-returns-then-first-live c = λ k m A R r x H t u l w. absurd (omega (arith, (placed _ _ _ A R r H t).values_low, c.if-first-live.true))
+returns-then-row-heads c = λ k m A R r x H t u l w.
+    let p = placed _ _ _ A R r H t in
+    absurd (elim c.then-row-heads.branch [
+      | goal.then-row-heads-via-then-row-heads w ↦ omega (arith, p.row)
+      | goal.then-row-heads-via-else-row-heads+then-live-ge-VALUES_ROOM w ↦ omega (arith, l)
+      | goal.then-row-heads-via-else-row-heads+else-live-ge-VALUES_ROOM+then-values-live w ↦ omega (arith, p.values_long, l)
+      | goal.then-row-heads-via-else-row-heads+else-live-ge-VALUES_ROOM+else-values-live+then-first-live w ↦ omega (arith, p.values_low)
+    ])
 
 pub returns-then-n-live : goal.returns-then-n-live
 unfolding Adds
@@ -35,4 +31,4 @@ with_counts-requires c =
 pub returns : goal.returns
 returns c =
     adds _ _ _ _ _ _ _ _ _ _ _ _ c.if-values-live.false c.if-first-live.false c.if-n-live.false
-    c.head_in-head.ensures c.rank_values-k.ensures c.«open».ensures c.write_words.ensures c.with_counts.ensures
+    c.head_in-head.ensures c.rank_rows-k.ensures c.«open».ensures c.write_value.ensures c.with_counts.ensures

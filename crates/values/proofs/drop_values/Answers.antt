@@ -6,21 +6,17 @@ use Rattle.tables.specs.Placed.{placed}
 use Rattle.values.proofs.Dropped.{drops}
 use Rattle.values.proofs.drop_values.Goals as goal
 
+-- where the row stands, no test sends it back
 pub returns-then-row-heads : goal.returns-then-row-heads
 unfolding Drops
-returns-then-row-heads c = λ k m A R r H t. absurd (omega (arith, (placed _ _ _ A R r H t).row, c.if-row-heads.true))
-
-pub returns-then-live-gt-VALUES_ROOM : goal.returns-then-live-gt-VALUES_ROOM
-unfolding Drops
-returns-then-live-gt-VALUES_ROOM c = λ k m A R r H t. absurd (omega (arith, H.values_fit, c.if-live-gt-VALUES_ROOM.true))
-
-pub returns-then-values-live : goal.returns-then-values-live
-unfolding Drops
-returns-then-values-live c = λ k m A R r H t. absurd (omega (arith, (placed _ _ _ A R r H t).values_long, H.values_fit, c.if-values-live.true))
-
-pub returns-then-first-live : goal.returns-then-first-live
-unfolding Drops
-returns-then-first-live c = λ k m A R r H t. absurd (omega (arith, (placed _ _ _ A R r H t).values_low, c.if-first-live.true))
+returns-then-row-heads c = λ k m A R r H t.
+    let p = placed _ _ _ A R r H t in
+    absurd (elim c.then-row-heads.branch [
+      | goal.then-row-heads-via-then-row-heads w ↦ omega (arith, p.row)
+      | goal.then-row-heads-via-else-row-heads+then-live-gt-VALUES_ROOM w ↦ omega (arith, H.values_fit)
+      | goal.then-row-heads-via-else-row-heads+else-live-gt-VALUES_ROOM+then-values-live w ↦ omega (arith, p.values_long, H.values_fit)
+      | goal.then-row-heads-via-else-row-heads+else-live-gt-VALUES_ROOM+else-values-live+then-first-live w ↦ omega (arith, p.values_low)
+    ])
 
 pub returns-then-n-live : goal.returns-then-n-live
 unfolding Drops
@@ -31,9 +27,9 @@ returns-then-n-live c = λ k m A R r H t.
 pub with_counts-requires : goal.with_counts-requires
 with_counts-requires c =
     let said = c.head_in-head.ensures in
-    (omega (arith, marks_said said), omega (arith, values-said said, c.keep_values-end.ensures.high))
+    (omega (arith, marks_said said), omega (arith, values-said said, c.keep_rows-end.ensures.high))
 
 pub returns : goal.returns
 returns c =
     drops _ _ _ _ _ _ _ _ _ _ c.if-values-live.false c.if-first-live.false c.if-n-live.false
-    c.head_in-head.ensures c.keep_values-end.ensures c.close.ensures c.with_counts.ensures
+    c.head_in-head.ensures c.keep_rows-end.ensures c.close.ensures c.with_counts.ensures

@@ -8,17 +8,8 @@ use Rattle.values.proofs.has_one.Goals as goal
 
 pub returns : goal.returns
 returns c = λ e.
-    has_one _ _ _ _ (omega (arith, c.if-head_in-ne1.false, values-said c.head_in.ensures)) (omega (arith, c.if-first-ge-VALUES_ROOM.false))
-    (omega (arith, c.if-values-from.false)) (sym c.covered.ensures ∙ e)
+    has_one _ _ _ _ (omega (arith, c.if-head_at-ne1.false, values-said c.head_at.ensures)) (omega (arith, c.if-first-ge-VALUES_ROOM.false))
+    (omega (arith, c.if-values-first.false)) (sym c.covered.ensures ∙ e)
 
-pub returns-then-row-heads : goal.returns-then-row-heads
-returns-then-row-heads c = λ e. absurd (false≢true e)
-
-pub returns-then-head_in-ne1 : goal.returns-then-head_in-ne1
-returns-then-head_in-ne1 c = λ e. absurd (false≢true e)
-
-pub returns-then-first-ge-VALUES_ROOM : goal.returns-then-first-ge-VALUES_ROOM
-returns-then-first-ge-VALUES_ROOM c = λ e. absurd (false≢true e)
-
-pub returns-then-values-from : goal.returns-then-values-from
-returns-then-values-from c = λ e. absurd (false≢true e)
+pub returns-then-head_at-ne1 : goal.returns-then-head_at-ne1
+returns-then-head_at-ne1 c = λ e. absurd (false≢true e)

@@ -8,24 +8,17 @@ use Rattle.waiting.proofs.early.Goals as goal
 
 pub returns-then-t-lt-WAITING : goal.returns-then-t-lt-WAITING
 unfolding TellsEarly
-returns-then-t-lt-WAITING c = λ A R o W e. absurd (omega (arith, table_long _ _ _ W, c.if-t-lt-WAITING.true))
-
-pub returns-then-n-gt-MOST : goal.returns-then-n-gt-MOST
-unfolding TellsEarly
-returns-then-n-gt-MOST c = λ A R o W e. absurd (omega (arith, W.fit, c.if-n-gt-MOST.true))
-
-pub returns-then-i-n : goal.returns-then-i-n
-unfolding TellsEarly
-returns-then-i-n c = λ A R o W e. absurd (omega (arith, among _ _ _ A R o W e, c.if-i-n.true))
+returns-then-t-lt-WAITING c =
+    λ A R o W e. absurd (omega (arith, table_long _ _ _ W, W.fit, among _ _ _ A R o W e))
 
 pub returns-then-last-entry : goal.returns-then-last-entry
 returns-then-last-entry c =
-    early-ahead _ _ _ _ _ _ c.wide-last.ensures refl c.if-last-entry.true
+    early-ahead _ _ _ _ _ _ c.from-last.ensures refl c.if-last-entry.true
 
 pub returns : goal.returns
 returns c =
-    early_even _ _ _ _ _ _ c.wide-last.ensures refl c.if-entry-last.false c.if-last-entry.false _ c.counters_at-deps.ensures _
+    early_even _ _ _ _ _ _ c.from-last.ensures refl c.if-entry-last.false c.if-last-entry.false _ c.counters_at-deps.ensures _
     c.at_most-ready.ensures
 
 pub returns-then-entry-last : goal.returns-then-entry-last
-returns-then-entry-last c = early-dead _ _ _ _ _ _ c.wide-last.ensures refl c.if-entry-last.true
+returns-then-entry-last c = early-dead _ _ _ _ _ _ c.from-last.ensures refl c.if-entry-last.true

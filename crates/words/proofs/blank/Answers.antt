@@ -1,19 +1,14 @@
+-- `words::blank` meets its contract. Assumes nothing.
 use native.Mathlib.Omega.{arith}
-use Rattle.words.proofs.Moves.{laying_start, blank_step, blank_done}
+use Prim.Native.Nat.{ℕ, ◌+◌}
+use mathlib.Core.Path.{◌≡◌}
+use Rattle.std.proofs.Common.{rules}
+use lib.ListN.{replicate, length-replicate}
+use Rattle.words.proofs.Moves.{part_over}
 use Rattle.words.proofs.blank.Goals as goal
-
-pub loop-i-preserved : goal.loop-i-preserved
-loop-i-preserved c =
-    let l = c.loop-i in
-    (omega arith, blank_step c.args.from c.args.n l.i c.args.t.now l.t c.requires (omega arith) l.invariant.1)
 
 pub returns : goal.returns
 returns c =
-    let l = c.loop-i in
-    blank_done c.args.from c.args.n l.i c.args.t.now l.t (omega arith) l.invariant.1
-
-pub loop-i-init : goal.loop-i-init
-loop-i-init c = (omega arith, laying_start _ _ _)
-
-pub shape_of-t : goal.shape_of-t
-shape_of-t c = c.loop-i.invariant.1.len
+    let a = c.args in
+    let e : c.fill.new.self ≡ replicate a.n 0 = search rules in
+    part_over a.from (a.from + a.n) a.t.now (replicate a.n 0) c.fill.new.self e (omega (arith, length-replicate {A = ℕ} a.n 0))

@@ -1,37 +1,25 @@
 -- `forecast::loss::gone_row` meets its contract: a row that tables hold is there, so no guard stops it. Assumes nothing.
 use native.Mathlib.Omega.{arith}
 use Rattle.tables.specs.Heads.{marks_said, values-said}
+use Rattle.words.proofs.Rows.{counted_marks}
 use Rattle.forecast.proofs.Goes.{row_none, row_gone}
+use Rattle.forecast.proofs.loss.gone_row.Goals.{then-s-head-gt1032-via-then-s-head-gt1032, then-s-head-gt1032-via-else-s-head-gt1032+then-s-head-gt1542}
 use Rattle.forecast.proofs.loss.gone_row.Goals as goal
 
-pub returns-then-from-m : goal.returns-then-from-m
-returns-then-from-m c =
-    let said = marks_said c.head_in-head.ensures in
-    row_none _ _ _ _ _ (λ keys t r h. omega (arith, said, h.marks, h.marks_fit))
+pub returns-then-s-gt-MARKS_ROOM : goal.returns-then-s-gt-MARKS_ROOM
+returns-then-s-gt-MARKS_ROOM c =
+    row_none _ _ _ _ _ (λ keys t r h. omega (arith, c.then-s-gt-MARKS_ROOM.either, h.mark, h.value))
 
-pub returns-then-at-v : goal.returns-then-at-v
-returns-then-at-v c =
-    let said = values-said c.head_in-head.ensures in
-    row_none _ _ _ _ _ (λ keys t r h. omega (arith, said, h.values, h.values_fit))
+pub returns-then-s-head-gt1032 : goal.returns-then-s-head-gt1032
+returns-then-s-head-gt1032 c =
+    let marks = marks_said c.head_at-head.ensures in
+    let values = values-said c.head_at-head.ensures in
+    elim c.then-s-head-gt1032.branch [
+      | then-s-head-gt1032-via-then-s-head-gt1032 w ↦ row_none _ _ _ _ _ (λ keys t r h. omega (arith, marks, w.if-s-head-gt1032.true, h.marks, h.marks_fit))
+      | then-s-head-gt1032-via-else-s-head-gt1032+then-s-head-gt1542 w ↦ row_none _ _ _ _ _ (λ keys t r h. omega (arith, values, w.if-s-head-gt1542.true, h.values, h.values_fit))
+    ]
 
 pub returns : goal.returns
 returns c =
-    row_gone _ _ _ _ _ _ _ _ c.head_in-head.ensures c.covered_marks-a.ensures c.covered_values-b.ensures
-
-pub returns-then-row-heads : goal.returns-then-row-heads
-returns-then-row-heads c = row_none _ _ _ _ _ (λ keys t r h. omega (arith, h.row))
-
-pub returns-then-from-gt-MARKS_ROOM : goal.returns-then-from-gt-MARKS_ROOM
-returns-then-from-gt-MARKS_ROOM c = row_none _ _ _ _ _ (λ keys t r h. omega (arith, h.mark))
-
-pub returns-then-at-gt-VALUES_ROOM : goal.returns-then-at-gt-VALUES_ROOM
-returns-then-at-gt-VALUES_ROOM c = row_none _ _ _ _ _ (λ keys t r h. omega (arith, h.value))
-
-pub overflow_add-from : goal.overflow_add-from
-overflow_add-from c = omega (arith, marks_said c.head_in-head.ensures)
-
-pub overflow_mul-v : goal.overflow_mul-v
-overflow_mul-v c = omega (arith, values-said c.head_in-head.ensures)
-
-pub overflow_add-at : goal.overflow_add-at
-overflow_add-at c = omega (arith, values-said c.head_in-head.ensures)
+    row_gone _ _ _ _ _ _ _ _ c.head_at-head.ensures (counted_marks _ _ _ _ _ (omega arith) c.covered_rows.ensures)
+    c.covered_rows-2.ensures

@@ -1,10 +1,7 @@
--- `listings::map::extent` meets its contract. The loop's invariant: what is counted, and what is still to come.
+-- The loop's invariant: all rows before i are of the map, with keys of this size.
 -- Assumes nothing.
 use Rattle.listings.proofs.Mapped.{Going}
 use Rattle.listings.proofs.map.extent.Given as goal
 
-abbrev pub invariant-loop-left : goal.invariant-loop-left
-invariant-loop-left l = Going l.heads l.keys l.depth l.rows l.from l.n l.size l.left
-
-abbrev pub decreases-loop-left : goal.decreases-loop-left
-decreases-loop-left l = l.left
+abbrev pub invariant-loop-i : goal.invariant-loop-i
+invariant-loop-i l = Going l.t.heads l.t.keys l.depth l.rows l.from l.i l.size

@@ -1,23 +1,19 @@
 -- `message::ways::take_keys_way` meets its contract.
 -- Assumes nothing.
-use mathlib.Core.Path.{refl, sym}
+use mathlib.Core.Path.{sym}
+use borrow.Author.Tests.{eqb-true, eqb-false}
 use Rattle.message.specs.Means.{pad}
-use Rattle.message.proofs.Places.{root, no_brace, behind_brace}
-use native.Mathlib.Omega.{arith}
-use lib.Seq.{length-take-le}
+use Rattle.message.proofs.Places.{ahead, root, no_brace, behind_brace}
 use Rattle.message.proofs.ways.take_keys_way.Goals as goal
 
-pub returns-then-s-eq0 : goal.returns-then-s-eq0
+pub returns-then-is_empty : goal.returns-then-is_empty
 unfolding pad
-returns-then-s-eq0 c = root _ c.if-s-eq0.true _ refl refl refl
+returns-then-is_empty c = root _ (eqb-true _ _ (sym c.if-is_empty.ensures))
 
-pub returns-then-s-last-ne123 : goal.returns-then-s-last-ne123
-returns-then-s-last-ne123 c =
-    no_brace _ c.if-s-eq0.false c.no_place.result c.if-s-last-ne123.true c.no_place.ensures
+pub returns-in_err-strip_suffix : goal.returns-in_err-strip_suffix
+returns-in_err-strip_suffix c = rw c.from_residual.ensures (no_brace _ (eqb-false _ _ (sym c.if-is_empty.ensures)) c.in_err-strip_suffix.ensures.cases)
 
 pub returns : goal.returns
 returns c =
-    behind_brace _ c.if-s-eq0.false c.take_place_way.result c.if-s-last-ne123.false c.take_place_way.ensures
-
-pub slice_bounds-take_place_way-end : goal.slice_bounds-take_place_way-end
-slice_bounds-take_place_way-end c = sym (length-take-le _ _ (omega arith))
+    let h = c.in_ok-strip_suffix.ensures in
+    behind_brace _ _ _ (ahead _ _ _ h.cases.0 h.cases.1) c.take_place_way.ensures

@@ -1,30 +1,19 @@
 -- `message::ways::take_place_way` meets its contract.
 -- Assumes nothing.
-use borrow.Author.Tests.{not-true, not-false}
-use Rattle.message.proofs.Places.{refused, no_way_lem, bytes_behind, at_caret_lem, a_place}
+use Rattle.message.proofs.Places.{refused, no_way, bytes_behind, ends_in_caret, a_place}
 use Rattle.message.proofs.ways.take_place_way.Goals as goal
+use Rattle.message.proofs.ways.take_place_way.Goals.{then-w-s-via-then-w-s, then-w-s-via-else-w-s+then-w-eq-CARET}
 
-pub returns-then-not-w : goal.returns-then-not-w
-returns-then-not-w c =
-    refused _ c.no_place.result c.no_place.ensures
-    (no_way_lem _ c.take_way-w.result c.take_way-w.ensures (not-true _ c.if-not-w.true))
+pub returns-in_err-w : goal.returns-in_err-w
+returns-in_err-w c = rw c.from_residual.ensures (refused _ (no_way _ c.in_err-w.ensures))
 
 pub returns-then-w-s : goal.returns-then-w-s
 returns-then-w-s c =
-    refused _ c.no_place-then-w-s.result c.no_place-then-w-s.ensures
-    (bytes_behind _ c.take_way-w.result c.take_way-w.ensures (not-false _ c.if-not-w.false)
-    c.if-w-s.true)
-
-pub returns-then-w-eq-CARET : goal.returns-then-w-eq-CARET
-returns-then-w-eq-CARET c =
-    refused _ c.no_place-then-w-eq-CARET.result c.no_place-then-w-eq-CARET.ensures
-    (at_caret_lem _ c.take_way-w.result c.take_way-w.ensures (not-false _ c.if-not-w.false)
-    c.if-w-eq-CARET.true)
+    refused _
+    (elim c.then-w-s.branch [
+      | then-w-s-via-then-w-s w ↦ bytes_behind _ _ c.in_ok-w.ensures w.if-w-s.true
+      | then-w-s-via-else-w-s+then-w-eq-CARET w ↦ ends_in_caret _ _ c.in_ok-w.ensures w.if-w-eq-CARET.true
+    ])
 
 pub returns : goal.returns
-returns c =
-    a_place _ c.take_way-w.result c.take_way-w.ensures (not-false _ c.if-not-w.false) c.if-w-s.false
-    c.if-w-eq-CARET.false
-
-pub take_way-w-requires : goal.take_way-w-requires
-take_way-w-requires c = c.powers-powers.ensures
+returns c = a_place _ _ c.in_ok-w.ensures c.if-w-s.false c.if-w-eq-CARET.false

@@ -1,11 +1,11 @@
--- `message::ways::take_way` meets its contract. The loop's invariant, `State`: the first key and i - 1 steps stand from a to n.
+-- `message::ways::take_way` meets its contract. The loop's invariant, `State`: the first key and further steps stand from a to `next`.
 -- Assumes nothing.
 use Prim.Native.Nat.{◌-◌}
 use Rattle.message.proofs.Trails.{State}
 use Rattle.message.proofs.ways.take_way.Given as goal
 
-abbrev pub invariant-loop-i : goal.invariant-loop-i
-invariant-loop-i l = State l.s l.a l.keys l.last l.n l.i
+abbrev pub invariant-loop-way : goal.invariant-loop-way
+invariant-loop-way l = State l.s l.a l.way l.last l.next
 
-abbrev pub decreases-loop-i : goal.decreases-loop-i
-decreases-loop-i l = 9 - l.i
+abbrev pub decreases-loop-way : goal.decreases-loop-way
+decreases-loop-way l = 8 - l.way.n

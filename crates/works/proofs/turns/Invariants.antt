@@ -1,9 +1,0 @@
--- `works::turns` is safe and ends: the turns are counted down.
--- Assumes nothing.
-use Rattle.works.proofs.turns.Given as goal
-
-abbrev pub invariant-loop-left : goal.invariant-loop-left
-invariant-loop-left l = Unit {0}
-
-abbrev pub decreases-loop-left : goal.decreases-loop-left
-decreases-loop-left l = l.left
