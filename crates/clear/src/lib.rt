@@ -1,6 +1,7 @@
-// Document 01, "Applying an operation": clearing a place clears each place under both its branches, and each of those its own branches in
-// turn. In the tables that is one pass over the rows of the place's block: each row's marks and values that stay are moved down to those
-// before them, and at the end what stands behind the block is moved once.
+// Document 01, "Applying an operation": clearing a place clears each place under both its branches, and each of those its own branches
+// in turn. In the tables that is one pass over the rows of the place's block: each row's marks and values that stay are moved down to
+// those before them, and at the end what stands behind the block is moved once. Each is lent only the tables that it changes
+// (docs/DECISIONS.md, 40). A guard that stops answers the counts as they were and no Option: in memory that holds rows none stops.
 #![tactic(auto)]
 
 ghost use Rattle.std.specs.Prelude.{◌<◌, length};

@@ -100,7 +100,8 @@ pub fn decimal_size(v: u64) -> usize
     20
 }
 
-// Writes v at the start of the buffer, from the last digit to the first.
+// Writes v at the start of the buffer, from the last digit to the first; by places, since of what `iter_mut().rev()` writes no clause
+// tells.
 pub fn put_decimal(buf: &mut [u8], v: u64) -> usize
     requires { length (decimal v) ≤ length buf.old }
     ensures { Wrote (decimal v) buf.old buf.new result }

@@ -22,7 +22,8 @@ fn side_by(len: u64) -> Side
     if len > LONGEST { Side::List } else { Side::Map }
 }
 
-// The place of the row that is looked for, made if it isn't there and may be, and the counts with it.
+// The place of the row that is looked for, made if it isn't there and may be (the clause `Leads` names that by a truth value), and the
+// counts with it.
 fn lead(
     t: &mut Tables,
     c: Counts,

@@ -10,14 +10,9 @@ use keeping::Memory;
 use lines::message_head;
 use meaning::{Counters, EditError, Edited, Made};
 use message::{Act, Edit, Operation};
+use readers::{LAST_COUNTER, TERMINALS};
 use tables::Position;
 use writers::Text;
-
-// The last counter: with it among what was seen no edit has an id.
-const LAST_COUNTER: u64 = 4294967295;
-
-// The greatest number of a device.
-const DEVICES: u64 = 8;
 
 // The operation of a device's edit that was read: it takes what was seen as its deps, and the counter behind the largest.
 fn operation_of(seen: Counters, largest: u64, device: u64, e: Edit) -> Operation
@@ -74,7 +69,7 @@ pub fn edit(m: &mut Memory, device: u64, lines: &[u8], buf: &mut [u8]) -> Edited
     if !keeping::within(m) {
         return Err(EditError::NoRoom);
     }
-    if device == 0 || device > DEVICES {
+    if device == 0 || device > TERMINALS {
         return Err(EditError::Layout);
     }
     let e = message::take_edit(lines).ok_or(EditError::Layout)?;

@@ -8,7 +8,7 @@ use mathlib.Core.Bool.{Bool, true, false, true≢false}
 use borrow.Author.Tests.{eqb-true, eq-eqb}
 use lib.Dec.{eqb}
 use mathlib.Core.List.{List, [], ◌∷◌, ◌++◌, append_assoc}
-use Rattle.std.specs.Prelude.{Option, None, Some, Ok, Err, is_some, unwrap_or, ok_or}
+use Rattle.std.specs.Prelude.{Option, None, Some, Ok, Err, is_some, unwrap_or}
 use lib.ListN.{length, take, drop, get_or, length-append, length-drop}
 use lib.Seq.{take_all}
 use Rattle.meaning.specs.Places.{Place}
@@ -32,7 +32,6 @@ use Rattle.tables.specs.Stands.{passes}
 use Rattle.tables.specs.Placed.{placed}
 use Rattle.tables.specs.declared.Head.{Head}
 use Rattle.tables.specs.declared.Position.{Position}
-use Rattle.finder.specs.declared.Absence.{Absence}
 use Rattle.finder.specs.declared.Absence.TheVariants as F
 use Rattle.finder.specs.Looks as Looks
 use Rattle.finder.specs.Looks.{Sees, standing, Looks}
@@ -61,11 +60,6 @@ module _ (words : List ℕ) (b : Bool) (empty : b ≡ eqb (length (take (length 
 
   pub some_left : b ≡ false → length words ≡ 3 → ⊥
   some_left f three = true≢false (sym (eq-eqb _ _ (omega (arith, left))) ∙ (sym empty ∙ f))
-
--- why a place that was looked for is absent
-pub told : (s : Option Position) (f g : Absence) → ok_or s f ≡ Err g → g ≡ f
-told None f g e = cc
-told (Some at) f g e = cc
 
 some≢none : {a : Position} → Some a ≡ None → ⊥
 some≢none e = true≢false (ap is_some e)

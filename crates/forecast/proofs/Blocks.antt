@@ -1,6 +1,6 @@
 -- The place behind a row, its depth, and what goes of a block.
 -- Assumes nothing.
-use Prim.Native.Nat.{ℕ, ◌+◌}
+use Prim.Native.Nat.{ℕ}
 use native.Mathlib.Omega.{arith}
 use mathlib.Core.Path.{◌≡◌, refl, sym, ap, ◌∙◌, subst}
 use mathlib.Core.List.{List, [], ◌∷◌, ◌++◌, append_assoc}
@@ -16,7 +16,7 @@ use Rattle.tables.specs.Stands.{passes}
 use Rattle.tables.specs.declared.Counts.{Counts}
 use Rattle.tables.specs.declared.Position.{Position}
 use Rattle.forecast.specs.declared.Lost.{Lost}
-use Rattle.forecast.specs.Goes.{Goes, RowGone, UnderGone, BlockGone, RowDeep}
+use Rattle.forecast.specs.Goes.{together, Goes, RowGone, UnderGone, BlockGone, RowDeep}
 use Rattle.forecast.proofs.Here.{here}
 use Rattle.forecast.proofs.Goes.{more_marks, more_values}
 
@@ -26,7 +26,7 @@ deep_is heads row keys marks values c A r R h e =
 
 pub block_gone : (heads marks values : List ℕ) (rows : ℕ) (s next : Position) (n : ℕ) (d : List ℕ) (g u : Lost)
     → RowGone heads marks values s d g → Passes heads s next → RowDeep heads s.row n → UnderGone heads marks values rows next n d u
-    → BlockGone heads marks values rows s d (record { marks = g.marks + u.marks; values = g.values + u.values })
+    → BlockGone heads marks values rows s d (together g u)
 block_gone heads marks values rows s next n d g u W P D U = record {
   few_marks = omega (arith, W.few_marks, U.few_marks);
   few_values = omega (arith, W.few_values, U.few_values);
@@ -35,7 +35,7 @@ block_gone heads marks values rows s next n d g u W P D U = record {
   where
     go : (keys : List ℕ) (c : Counts) (A : List Row) (r : Row) (R : List Row) → rows ≡ c.rows
         → Holds (four heads keys marks values) c (A ++ r ∷ R) → s ≡ behind A
-        → Goes d (r ∷ passed (deeper r.depth) R) (record { marks = g.marks + u.marks; values = g.values + u.values })
+        → Goes d (r ∷ passed (deeper r.depth) R) (together g u)
     go keys c A r R q h e =
         let a = W.is keys c A r R h e in
         let k : n ≡ r.depth = D keys marks values c A r R h (at-behind s A e).row in

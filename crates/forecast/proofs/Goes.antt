@@ -28,7 +28,7 @@ use Rattle.tables.specs.declared.Counts.{Counts}
 use Rattle.tables.specs.declared.Head.{Head}
 use Rattle.tables.specs.declared.Position.{Position}
 use Rattle.forecast.specs.declared.Lost.{Lost}
-use Rattle.forecast.specs.Goes.{Goes, RowGone, UnderGone}
+use Rattle.forecast.specs.Goes.{together, Goes, RowGone, UnderGone}
 use Rattle.forecast.proofs.Here.{Here, here, Between, between}
 
 abbrev pub nothing : Lost
@@ -186,7 +186,7 @@ module _ (heads marks values : List ℕ) (rows : ℕ) (from : Position) (n : ℕ
     -- one row more
     counted_on : at.row < rows → n < depth_in (get_or heads at.row 0) → (g : Lost) → RowGone heads marks values at d g
         → Going heads marks values rows from n d (further at (get_or heads at.row 0))
-        (record { marks = sum.marks + g.marks; values = sum.values + g.values })
+        (together sum g)
     counted_on l p g W =
         let w = get_or heads at.row 0 in
         let m : marks_at w < 2048 = omega arith in
@@ -206,7 +206,7 @@ module _ (heads marks values : List ℕ) (rows : ℕ) (from : Position) (n : ℕ
             → sum.marks + gone_marks d (passed (deeper n) back) ≡ gone_marks d (passed (deeper n) B)
             → sum.values + gone_values d (passed (deeper n) back) ≡ gone_values d (passed (deeper n) B)
             → Reached d n rs B (further at (get_or heads at.row 0))
-            (record { marks = sum.marks + g.marks; values = sum.values + g.values })
+            (together sum g)
         step keys c rs B front [] q h a e x y =
             absurd (omega (arith, (at-behind at front e).row, length-append front [], h.rows_are))
         step keys c rs B front (r ∷ back) q h a e x y =
@@ -226,7 +226,7 @@ module _ (heads marks values : List ℕ) (rows : ℕ) (from : Position) (n : ℕ
         on : (keys : List ℕ) (c : Counts) (A B : List Row) → rows ≡ c.rows
             → Holds (four heads keys marks values) c (A ++ B) → Reached d n (A ++ B) B at sum
             → Reached d n (A ++ B) B (further at (get_or heads at.row 0))
-            (record { marks = sum.marks + g.marks; values = sum.values + g.values })
+            (together sum g)
         on keys c A B q h R =
             step keys c (A ++ B) B R.front R.back q (subst (Holds (four heads keys marks values) c) R.all h) R.all R.here
             R.marks R.values
@@ -234,5 +234,5 @@ module _ (heads marks values : List ℕ) (rows : ℕ) (from : Position) (n : ℕ
     pub going_on : (head : Head) → head ≡ head_in (get_or heads at.row 0) → at.row < rows → n < head.depth → (g : Lost)
         → RowGone heads marks values at d g → Going heads marks values rows from n d
         (record { row = at.row + 1; mark = at.mark + head.marks; value = at.value + head.values })
-        (record { marks = sum.marks + g.marks; values = sum.values + g.values })
+        (together sum g)
     going_on head e l p g W = rw (marks_said e, values-said e) (counted_on l (omega (arith, depth_said e)) g W)

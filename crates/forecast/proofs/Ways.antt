@@ -31,7 +31,8 @@ use Rattle.std.specs.Prelude.{Option, None, Some, is_some}
 use Rattle.std.specs.Bool.{then_some}
 use Rattle.forecast.specs.declared.Weight.{Weight}
 use Rattle.finder.specs.Looks.{Sees, missing, standing, hanging, HangsBehind, Looks}
-use Rattle.forecast.specs.Weighs.{or_new, plain_given, deed_deletes, Counted, Weighs, Few, element_weighed, carried}
+use Rattle.deeds.specs.Deeds.{is_delete}
+use Rattle.forecast.specs.Weighs.{or_new, plain_given, Counted, Weighs, Few, element_weighed, carried}
 use Rattle.forecast.specs.Weighs.{PlaceWeighed, WayWeighed}
 use Rattle.forecast.proofs.Weights.{is_plain, given_plain, Ends, ends, and_false, map_carry, list_carry, list_lost, carried_few}
 use Rattle.readers.specs.Hex.{words_in}
@@ -81,7 +82,7 @@ module _ (d : List ℕ) (n : ℕ) (w : Way) (rs : List Row) where
 
 -- The last key.
 
-ends-makes : (w : Way) → Ends w → not (deed_deletes (deed_of w)) ≡ makes w
+ends-makes : (w : Way) → Ends w → not (is_delete (deed_of w)) ≡ makes w
 unfolding deed_of makes
 ends-makes (assign a) e = refl
 ends-makes delete e = refl
@@ -130,16 +131,16 @@ module _ (h k m v : List ℕ) (rows : ℕ) (from : Option Position) (n : ℕ) (d
   pub target_weighed : (s : Option Position) (u : Weight) → ((g : Given) → deed ≡ D.Insert g → ⊥) → Looks h k rows from n y s
       → PlaceWeighed h m v rows s d deed u
       → WayWeighed h k m v rows from n d deed (words_in y)
-      (carried u (is_some s) (eqb y.len 17) (covered d y.hi) (not (deed_deletes deed)))
+      (carried u (is_some s) (eqb y.len 17) (covered d y.hi) (not (is_delete deed)))
   unfolding way_words deed_of
   target_weighed s u other look place = record {
-    few = carried_few u 3 (is_some s) (eqb y.len 17) (covered d y.hi) (not (deed_deletes deed)) (omega (arith, place.few_places))
+    few = carried_few u 3 (is_some s) (eqb y.len 17) (covered d y.hi) (not (is_delete deed)) (omega (arith, place.few_places))
         (omega (arith, place.few_marks));
     is = λ c A B w H q f e g ok N. all c A B w H q f e g ok;
   }
     where
       X : Option Weight
-      X = carried u (is_some s) (eqb y.len 17) (covered d y.hi) (not (deed_deletes deed))
+      X = carried u (is_some s) (eqb y.len 17) (covered d y.hi) (not (is_delete deed))
 
       go : (c : Counts) (A B : List Row) (p : Spot) (w : Way) → Holds (four h k m v) c (A ++ B) → rows ≡ c.rows → HangsBehind from A
           → words_in y ≡ spot_words p → way_words w ≡ [] → deed ≡ deed_of w → GoodSpot p
@@ -149,8 +150,8 @@ module _ (h k m v : List ℕ) (rows : ℕ) (from : Option Position) (n : ℕ) (d
           let L = locate_at n p rs in
           let S = look m v c A B (pass_of p) (meant_of p) H q f (spot_agrees n y p e ok) (spot_tells n y p e ok) in
           let W = place.is k c (A ++ B) n p L w H q S z g in
-          carry_into d n w rs u (is_some s) (not (deed_deletes deed)) y p e ok (sees_there (A ++ B) n s L S)
-          (ap (λ i. not (deed_deletes i)) g ∙ ends-makes w (ends w z)) (ends_found d (suc n) w (under_of L) (ends w z), W)
+          carry_into d n w rs u (is_some s) (not (is_delete deed)) y p e ok (sees_there (A ++ B) n s L S)
+          (ap (λ i. not (is_delete i)) g ∙ ends-makes w (ends w z)) (ends_found d (suc n) w (under_of L) (ends w z), W)
 
       all : (c : Counts) (A B : List Row) (w : Way) → Holds (four h k m v) c (A ++ B) → rows ≡ c.rows → HangsBehind from A
           → words_in y ≡ way_words w → deed ≡ deed_of w → ValidWay w

@@ -24,7 +24,8 @@ use Rattle.message.specs.declared.Deed.{Deed}
 use Rattle.message.specs.declared.Deed.TheVariants as D
 use Rattle.readers.specs.Given.{given_of}
 use Rattle.forecast.specs.declared.Weight.{Weight}
-use Rattle.forecast.specs.Weighs.{or_new, GoesAt, SightGone, plain_given, gives_plain, deed_deletes, Counted, Weighs, Few}
+use Rattle.deeds.specs.Deeds.{is_delete}
+use Rattle.forecast.specs.Weighs.{or_new, GoesAt, SightGone, plain_given, gives_plain, Counted, Weighs, Few}
 use Rattle.forecast.specs.Weighs.{nothing_weighed, put_weighed, marked, placed, carried, PlaceWeighed}
 
 -- A way that ends here.
@@ -70,7 +71,7 @@ module _ (d : List ℕ) (n : ℕ) (b : Block) (g : Lost) where
   abbrev place_weight : Deed → Weight
   place_weight deed = record {
     places = 0;
-    marks = cond (deed_deletes deed) 0 1;
+    marks = cond (is_delete deed) 0 1;
     values = cond (gives_plain deed) 1 0;
     gone_marks = g.marks;
     gone_values = g.values;
@@ -97,7 +98,7 @@ module _ (d : List ℕ) (n : ℕ) (b : Block) (g : Lost) where
   place_is (into_map _ _) e h = elim e [ ]
   place_is (into_list _ _) e h = elim e [ ]
 
-one_mark : (deed : Deed) → cond (deed_deletes deed) 0 1 ≤ 1
+one_mark : (deed : Deed) → cond (is_delete deed) 0 1 ≤ 1
 one_mark (D.Assign g) = omega arith
 one_mark (D.Insert g) = omega arith
 one_mark D.Delete = omega arith
@@ -182,7 +183,7 @@ pub marked_places : (u : Weight) (deed : Deed) → (marked u deed).places ≡ u.
 unfolding marked
 marked_places u deed = refl
 
-way_deletes : (w : Way) → deed_deletes (deed_of w) ≡ deletes w
+way_deletes : (w : Way) → is_delete (deed_of w) ≡ deletes w
 unfolding deed_of deletes
 way_deletes (assign a) = refl
 way_deletes delete = refl
@@ -195,7 +196,7 @@ pub mark-is : (d : List ℕ) (n : ℕ) (w : Way) (b : Block) (u : Weight) (deed 
 unfolding marked
 mark-is d n w b u deed g e C =
     subst (λ c. Counted c (marked u deed)) (sym (run-change d n w b g))
-    (go (deed_deletes deed) (ap deed_deletes e ∙ way_deletes w))
+    (go (is_delete deed) (ap is_delete e ∙ way_deletes w))
   where
     go : (t : Bool) → t ≡ deletes w
         → Counted (both (passing_change w) (under_change d (suc n) w b.under)) (record {

@@ -1,7 +1,7 @@
 -- What goes: how many marks and values deps cover, of a row, of what hangs under a place, of a block. Each promise says: if the tables hold
 -- rows, and the place is that of one of them, the numbers are those of the rows. And for any memory the numbers are few.
 -- Assumes nothing: these are definitions.
-use Rattle.std.specs.Prelude.{ℕ, ◌≤◌, ◌≡◌, List, [], ◌∷◌, ◌++◌, length}
+use Rattle.std.specs.Prelude.{ℕ, ◌+◌, ◌≤◌, ◌≡◌, List, [], ◌∷◌, ◌++◌, length}
 use Rattle.meaning.specs.Sheet.{Row}
 use Rattle.rows.specs.Blocks.{passed, deeper}
 use Rattle.rows.specs.Counting.{gone_marks, gone_values}
@@ -15,6 +15,10 @@ use Rattle.forecast.specs.declared.Lost.{Lost}
 pub record Goes (d : List ℕ) (rs : List Row) (g : Lost) : Type 0 where
   pub marks : g.marks ≡ gone_marks d rs
   pub values : g.values ≡ gone_values d rs
+
+-- what goes of two parts
+abbrev pub together : Lost → Lost → Lost
+together g u = record { marks = g.marks + u.marks; values = g.values + u.values }
 
 pub record RowGone (heads marks values : List ℕ) (s : Position) (d : List ℕ) (g : Lost) : Type 0 where
   pub few_marks : g.marks ≤ 2047

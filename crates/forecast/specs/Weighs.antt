@@ -16,6 +16,7 @@ use Rattle.message.specs.Means.{way_words, deed_of}
 use Rattle.message.specs.declared.Act.{Act}
 use Rattle.message.specs.declared.Deed.{Deed}
 use Rattle.message.specs.declared.Deed.TheVariants as D
+use Rattle.deeds.specs.Deeds.{is_delete}
 use Rattle.tables.specs.Holding.{Holds, four}
 use Rattle.tables.specs.declared.Counts.{Counts}
 use Rattle.tables.specs.declared.Position.{Position}
@@ -52,11 +53,6 @@ gives_plain (D.Assign g) = plain_given g
 gives_plain (D.Insert g) = plain_given g
 gives_plain D.Delete = false
 
-abbrev pub deed_deletes : Deed → Bool
-deed_deletes (D.Assign g) = false
-deed_deletes (D.Insert g) = false
-deed_deletes D.Delete = true
-
 abbrev pub SightGone : List ℕ → List ℕ → List ℕ → ℕ → Option Position → Deed → List ℕ → Lost → Type 0
 SightGone h m v rows s deed d g =
     (k : List ℕ) (c : Counts) (rs : List Row) (n : ℕ) (p : Spot) (l : Located) → Holds (four h k m v) c rs → rows ≡ c.rows
@@ -89,7 +85,7 @@ nothing_weighed = record { places = 0; marks = 0; values = 0; gone_marks = 0; go
 abbrev pub put_weighed : Deed → Weight
 put_weighed deed = record {
   places = 0;
-  marks = cond (deed_deletes deed) 0 1;
+  marks = cond (is_delete deed) 0 1;
   values = cond (gives_plain deed) 1 0;
   gone_marks = 0;
   gone_values = 0;
@@ -98,7 +94,7 @@ put_weighed deed = record {
 abbrev pub element_weighed : Deed → Weight
 element_weighed deed = record {
   places = 1;
-  marks = cond (deed_deletes deed) 0 1;
+  marks = cond (is_delete deed) 0 1;
   values = cond (gives_plain deed) 1 0;
   gone_marks = 0;
   gone_values = 0;
@@ -107,7 +103,7 @@ element_weighed deed = record {
 unfoldable pub marked : Weight → Deed → Weight
 marked u deed = record {
   places = u.places;
-  marks = cond (deed_deletes deed) u.marks (u.marks + 1);
+  marks = cond (is_delete deed) u.marks (u.marks + 1);
   values = u.values;
   gone_marks = u.gone_marks;
   gone_values = u.gone_values;

@@ -10,11 +10,12 @@ ghost use Rattle.readers.specs.Hex.{words_in};
 ghost use Rattle.forecast.specs.Weighs.{SightGone, PlaceWeighed, WayWeighed, Weighed};
 
 use counters::covered;
+use deeds::is_delete;
 use finder::look;
 use loss::{NOTHING, gone, gone_row};
 use message::{Act, Deed};
 use readers::{CARET, ELEMENT, Key};
-use sums::{WEIGHTLESS, carry, deletes, element, gives_plain, mark, put};
+use sums::{WEIGHTLESS, carry, element, gives_plain, mark, put};
 use tables::{DEEPEST, Position, Tables, next_row};
 
 // How many marks and values go.
@@ -89,7 +90,7 @@ fn weigh_last(
         at.is_some(),
         key.len == ELEMENT,
         covered(&o.deps, key.hi),
-        !deletes(o.deed),
+        !is_delete(o.deed),
     )
 }
 

@@ -1,15 +1,31 @@
 // What goes: the marks and values that deps cover, of a row and of a block.
-ghost use Rattle.forecast.specs.Goes.{RowGone, UnderGone, BlockGone, RowDeep};
+ghost use Rattle.std.specs.Prelude.{◌≡◌, ◌<◌, ◌+◌};
+ghost use Rattle.forecast.specs.Goes.{together, RowGone, UnderGone, BlockGone, RowDeep};
 
 use crate::Lost;
 use meaning::Counters;
-use tables::{MARKS_ROOM, Position, ROWS_ROOM, Tables, VALUES_ROOM, head_at, head_in, next_row};
+use tables::{
+    MARKS_ROOM, Position, ROWS_ROOM, Tables, VALUE_WORDS, VALUES_ROOM, head_at, head_in, next_row,
+};
 use words::covered_rows;
 
 pub const NOTHING: Lost = Lost {
     marks: 0,
     values: 0,
 };
+
+impl Lost {
+    // What goes of two parts that have no row in common. No `impl Add`: the sum has to have room.
+    fn plus(self, g: Lost) -> Lost
+        requires { (self.marks + g.marks < 18446744073709551616) × (self.values + g.values < 18446744073709551616) }
+        ensures { result ≡ together self g }
+    {
+        Lost {
+            marks: self.marks + g.marks,
+            values: self.values + g.values,
+        }
+    }
+}
 
 // How many marks and values of a row d covers.
 pub fn gone_row(t: &Tables, s: Position, d: Counters) -> Lost
@@ -19,12 +35,14 @@ pub fn gone_row(t: &Tables, s: Position, d: Counters) -> Lost
     if s.mark > MARKS_ROOM || s.value > VALUES_ROOM {
         return NOTHING;
     }
-    if s.mark + head.marks > t.marks.len() || s.value * 6 + head.values * 6 > t.values.len() {
+    if s.mark + head.marks > t.marks.len()
+        || s.value * VALUE_WORDS + head.values * VALUE_WORDS > t.values.len()
+    {
         return NOTHING;
     }
     Lost {
         marks: covered_rows::<1>(&t.marks, s.mark, head.marks, d),
-        values: covered_rows::<6>(&t.values, s.value * 6, head.values, d),
+        values: covered_rows::<VALUE_WORDS>(&t.values, s.value * VALUE_WORDS, head.values, d),
     }
 }
 
@@ -44,10 +62,7 @@ pub fn gone_under(t: &Tables, rows: usize, from: Position, n: u64, d: Counters) 
             return sum;
         }
         let g = gone_row(t, at, d);
-        sum = Lost {
-            marks: sum.marks + g.marks,
-            values: sum.values + g.values,
-        };
+        sum = sum.plus(g);
         at = Position {
             row: at.row + 1,
             mark: at.mark + head.marks,
@@ -72,8 +87,5 @@ pub fn gone(t: &Tables, rows: usize, s: Position, d: Counters) -> Lost
     let next = next_row(&t.heads, s);
     let n = depth_at(t, s.row);
     let under = gone_under(t, rows, next, n, d);
-    Lost {
-        marks: own.marks + under.marks,
-        values: own.values + under.values,
-    }
+    own.plus(under)
 }

@@ -1,9 +1,10 @@
 // What comes and goes at the places of a way, summed up.
 ghost use Rattle.std.specs.Prelude.{◌≡◌, ◌<◌};
-ghost use Rattle.forecast.specs.Weighs.{plain_given, gives_plain, deed_deletes, marked, carried, nothing_weighed, put_weighed};
+ghost use Rattle.forecast.specs.Weighs.{plain_given, gives_plain, marked, carried, nothing_weighed, put_weighed};
 ghost use Rattle.forecast.specs.Weighs.{element_weighed};
 
 use crate::Weight;
+use deeds::is_delete;
 use message::Deed;
 use readers::Given;
 
@@ -33,18 +34,12 @@ pub fn gives_plain(deed: Deed) -> bool
     }
 }
 
-pub fn deletes(deed: Deed) -> bool
-    ensures { result ≡ deed_deletes deed }
-{
-    matches!(deed, Deed::Delete)
-}
-
 // The mark and the value that come at the deed's place: no mark if it deletes, and a value if it is a plain one.
 pub fn put(deed: Deed) -> Weight
     ensures { result ≡ put_weighed deed }
 {
     Weight {
-        marks: usize::from(!deletes(deed)),
+        marks: usize::from(!is_delete(deed)),
         values: usize::from(gives_plain(deed)),
         ..WEIGHTLESS
     }
@@ -66,7 +61,7 @@ pub fn mark(u: Weight, deed: Deed) -> Weight
     requires { u.marks < 9223372036854775808 }
     ensures { result ≡ marked u deed }
 {
-    if deletes(deed) {
+    if is_delete(deed) {
         return u;
     }
     Weight {

@@ -5,7 +5,7 @@ use native.Mathlib.Omega.{arith}
 use mathlib.Core.Path.{◌≡◌, refl, sym, ap, ap₂, ◌∙◌, subst}
 use mathlib.Core.Bool.{Bool, true, false, not}
 use mathlib.Core.List.{List}
-use Rattle.std.specs.Prelude.{Ok, Err, Option, None, Some, ok_or}
+use Rattle.std.specs.Prelude.{Ok, Err, Option, None, Some}
 use lib.ListN.{length, get_or, take}
 use Rattle.meaning.specs.Places.{Document}
 use Rattle.meaning.specs.Apply.{apply}
@@ -31,7 +31,6 @@ use Rattle.forecast.specs.Weighs.{Counted, Few, Weighs, Weighed}
 use Rattle.forecast.specs.declared.Weight.{Weight}
 use Rattle.keeping.specs.Storing.{Stores}
 use Rattle.judging.specs.Judging.{ReadyJudgement, Small, has_room, goes_down, ready_verdict, top_position, Newer, JudgesReady}
-use Rattle.judging.specs.declared.Unfit.{Unfit}
 use Rattle.judging.specs.declared.Unfit.TheVariants as Y
 use Rattle.judging.proofs.Words.{words_count, down_pad}
 use Rattle.judging.proofs.Rooms.{weight_small, room-is}
@@ -40,11 +39,6 @@ use Rattle.judging.proofs.Tops.{found_top, change_top}
 -- the whole way, from the root
 abbrev pub whole : M.Operation → M.Way
 whole o = into_map o.top o.way
-
--- the refusal of a weight that is missing
-pub told : (x : Option Weight) (f y : Unfit) → ok_or x f ≡ Err y → y ≡ f
-told None f y e = cc
-told (Some u) f y e = cc
 
 twice : (b : Bool) → b ≡ not (not b)
 twice true = refl

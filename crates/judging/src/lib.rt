@@ -26,7 +26,7 @@ pub enum Refusal {
     NoRoom,
 }
 
-// The refusals of an operation that is ready: 8, 9, 10.
+// The refusals of an operation that is ready: 8, 9, 10. Each is a `Refusal` too, by `From`, so that an edit has no case that it can't meet.
 #[derive(Clone, Copy, PartialEq, Eq)]
 pub enum Unfit {
     NoElement,

@@ -17,7 +17,7 @@ pub struct Document {
     pub seen: Counters,
 }
 
-// A terminal in memory: its document, the table of the waiting operations, and how many they are.
+// A terminal in memory: its document, the table of the waiting operations, and how many they are (fixed memory, no heap).
 #[derive(Drop)]
 pub struct Memory {
     pub document: Document,

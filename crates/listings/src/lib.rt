@@ -83,8 +83,6 @@ pub fn element(
     if rows > ROWS_ROOM || from > rows || index == 0 {
         return Err(ReadError::NotThere);
     }
-    match nth_row(t, rows, from, depth, index) {
-        Some(row) => give(buf, &id_row(key_at(&t.keys, row).hi)),
-        None => Err(ReadError::NotThere),
-    }
+    let row = nth_row(t, rows, from, depth, index).ok_or(ReadError::NotThere)?;
+    give(buf, &id_row(key_at(&t.keys, row).hi))
 }

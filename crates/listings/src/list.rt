@@ -19,6 +19,7 @@ pub fn nth_row(t: &Tables, rows: usize, from: usize, depth: u64, index: u64) -> 
     ensures { IsNth t.now.heads rows from depth index result }
 {
     let mut n = index;
+    // By number, since the row's number is the answer: over the slice `heads[from..rows]` it would be counted anew, and `from` added to it.
     for i in from..rows {
         let h = head_in(t.heads[i]);
         if h.depth <= depth {

@@ -1,5 +1,6 @@
 // Readers of the parts that messages, edits, sheets and the ways of reads are made of. Each takes what stands at a place of a text, and
-// answers it with the place behind it, or that nothing of its kind stands there.
+// answers it with the place behind it, or that nothing of its kind stands there. Places of one text and no cursor: the clauses speak of
+// places.
 #![tactic(auto)]
 
 mod assigned;
@@ -18,9 +19,9 @@ pub use hex::{take_key, take_string};
 use meaning::Counters;
 
 // The greatest counter, and how many terminals there are.
-const LAST_COUNTER: u64 = 4294967295;
+pub const LAST_COUNTER: u64 = 4294967295;
 
-const TERMINALS: u64 = 8;
+pub const TERMINALS: u64 = 8;
 
 // An integer: n, or -(n + 1).
 #[derive(Clone, Copy)]
@@ -29,7 +30,7 @@ pub enum Integer {
     Neg(u64),
 }
 
-// Up to 32 bytes, packed into four words, and how many they are: a string, as it is read.
+// Up to 32 bytes, packed into four words, and how many they are: a string, as it is read (fixed memory, no heap).
 #[derive(Clone, Copy)]
 pub struct Packed {
     pub words: [u64; 4],

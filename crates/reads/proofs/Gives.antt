@@ -3,7 +3,11 @@
 use Prim.Native.Nat.{ℕ}
 use mathlib.Core.Path.{refl, sym, subst}
 use mathlib.Core.List.{List, [], ◌∷◌, ◌++◌, append_assoc}
-use Rattle.std.specs.Prelude.{Ok, Err}
+use mathlib.Core.Path.{◌≡◌}
+use Rattle.std.specs.Prelude.{Result, Ok, Err}
+use Rattle.std.specs.Result.{MatchResult, IsErrAnd}
+use Rattle.meaning.specs.declared.ReadError.{ReadError}
+use Rattle.finder.specs.Follows.{Followed}
 use Rattle.meaning.specs.Places.{Place}
 use Rattle.meaning.specs.Members.{All}
 use Rattle.meaning.specs.Read.{Sought, Finding}
@@ -22,6 +26,17 @@ use Rattle.finder.specs.declared.Absence.{Absence}
 use Rattle.finder.specs.declared.Absence.TheVariants as F
 use Rattle.listings.specs.Lists.{Answers, Under, Owns, Lists, ListsKeys, ListsValues, ListsElement}
 use Rattle.reads.specs.Gives.{Gives, HeldRows, HeldValues, GivesKeys, GivesValues, GivesElement}
+
+-- where the way led, by what is made of it for the answer
+pub led_to : (P : Absence → ReadError → Type 0) (f : Followed) {r : Result Position ReadError} (at : Position)
+    → MatchResult f (λ x. r ≡ Ok x) (λ a. IsErrAnd r (P a)) → r ≡ Ok at → f ≡ Ok at
+led_to P (Ok x) at m e = cc
+led_to P (Err a) at m e = absurd (subst (λ r. IsErrAnd r (P a)) e m)
+
+pub led_nowhere : (P : Absence → ReadError → Type 0) (f : Followed) {r : Result Position ReadError} (y : ReadError)
+    → MatchResult f (λ x. r ≡ Ok x) (λ a. IsErrAnd r (P a)) → r ≡ Err y → (a : Absence) × (f ≡ Err a)
+led_nowhere P (Ok x) y m e = cc
+led_nowhere P (Err a) y m e = (a, refl)
 
 -- nothing is there
 pub gives_absent : (Held : List Row → Type 0) (n : ℕ) (find : Place → Finding) (before : List ℕ) (a : Absence)

@@ -34,9 +34,7 @@ pub fn keys(d: &Document, way: &[u8], buf: &mut [u8]) -> Reading
     if led.n == 0 {
         return listings::keys(buf, &d.tables, d.counts.rows, 0, 0);
     }
-    let Ok(at) = place_at(d, &led) else {
-        return Err(ReadError::NotThere);
-    };
+    let at = place_at(d, &led).map_err(|_| ReadError::NotThere)?;
     let next = next_row(&d.tables.heads, at);
     listings::keys(buf, &d.tables, d.counts.rows, next.row, led.n as u64)
 }
@@ -49,9 +47,7 @@ pub fn values(d: &Document, way: &[u8], buf: &mut [u8]) -> Reading
         return Err(ReadError::NotThere);
     }
     let led = take_place_way(way).ok_or(ReadError::Layout)?;
-    let Ok(at) = place_at(d, &led) else {
-        return Err(ReadError::NotThere);
-    };
+    let at = place_at(d, &led).map_err(|_| ReadError::NotThere)?;
     listings::values(buf, &d.tables.heads, &d.tables.values, at)
 }
 
@@ -63,9 +59,7 @@ pub fn element(d: &Document, way: &[u8], index: u64, buf: &mut [u8]) -> Reading
         return Err(ReadError::NotThere);
     }
     let led = take_element_way(way).ok_or(ReadError::Layout)?;
-    let Ok(at) = place_at(d, &led) else {
-        return Err(ReadError::NotThere);
-    };
+    let at = place_at(d, &led).map_err(|_| ReadError::NotThere)?;
     let next = next_row(&d.tables.heads, at);
     listings::element(buf, &d.tables, d.counts.rows, next.row, led.n as u64, index)
 }

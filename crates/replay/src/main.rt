@@ -83,7 +83,10 @@ fn play(m: &mut Memory, buf: &mut [u8]) {
         ended = r.ended;
         let at = c.from;
         let to = c.to;
-        let next = replay_calls::answer(m, &buf[..to], at).unwrap_or(at);
+        let Some(next) = replay_calls::answer(m, &buf[..to], at) else {
+            say_end(at, to);
+            return;
+        };
         if !goes_on(at, next, to) {
             say_end(at, to);
             return;

@@ -3,11 +3,12 @@
 #![tactic(auto)]
 
 use keeping::{Document, Memory};
-use meaning::{Counters, Receipt, Received, Saved};
-use readers::{take_byte, take_text};
-use replay_text::{FILL, LONGEST_BUFFER, block_of, say, say_number, say_short, say_written};
-use script::{BlockFound, number};
-use tables::Counts;
+use meaning::{Receipt, Received, Saved};
+use readers::take_text;
+use replay_text::{
+    FILL, LONGEST_BUFFER, block_of, save_of, say, say_number, say_short, say_written,
+};
+use script::BlockFound;
 
 // The call at a place of a script, and where the next one stands.
 #[derive(Clone, Copy)]
@@ -17,16 +18,6 @@ enum Call {
     Save { size: usize, next: usize },
 }
 
-// `save`, whose first line has the size of the buffer and no more.
-fn find_save(text: &[u8], a: usize) -> Option<Call> {
-    let (size, end) = number(text, a, b"save ", LONGEST_BUFFER as u64)?;
-    let next = take_byte(text, end, b'\n')?;
-    Some(Call::Save {
-        size: size as usize,
-        next,
-    })
-}
-
 fn find(text: &[u8], a: usize) -> Option<Call> {
     if let Some(next) = take_text(text, a, b"reset\n") {
         return Some(Call::Reset { next });
@@ -34,25 +25,11 @@ fn find(text: &[u8], a: usize) -> Option<Call> {
     if let Some(block) = block_of(text, a, b"receive ") {
         return Some(Call::Receive(block));
     }
-    find_save(text, a)
-}
-
-// A new terminal: every word is 0, and none is live.
-fn reset(m: &mut Memory) {
-    let t = &mut m.document.tables;
-    t.heads.fill(0);
-    t.keys.fill(0);
-    t.marks.fill(0);
-    t.values.fill(0);
-    m.document.counts = Counts {
-        rows: 0,
-        marks: 0,
-        values: 0,
-    };
-    m.document.seen = Counters { at: [0; 8] };
-    m.waiting.fill(0);
-    m.count = 0;
-    say(b"reset 0 0 0\n");
+    let (size, next) = save_of(text, a, LONGEST_BUFFER as u64)?;
+    Some(Call::Save {
+        size: size as usize,
+        next,
+    })
 }
 
 // The answer to a message.
@@ -94,7 +71,8 @@ fn save(d: &Document, n: usize) {
 pub fn answer(m: &mut Memory, text: &[u8], a: usize) -> Option<usize> {
     match find(text, a) {
         Some(Call::Reset { next }) => {
-            reset(m);
+            terminal::reset(m);
+            say(b"reset 0 0 0\n");
             Some(next)
         }
         Some(Call::Receive(block)) => {

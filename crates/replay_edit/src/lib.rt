@@ -21,10 +21,10 @@ fn edit_into(m: &mut Memory, device: u64, lines: &[u8], buf: &mut [u8]) {
 
 // Answers the edit at a place of a script, and says where the next call stands.
 pub fn answer(m: &mut Memory, text: &[u8], a: usize) -> Option<usize> {
-    let call = lent_with_number(text, a, b"edit ")?;
+    let (device, call) = lent_with_number(text, a, b"edit ")?;
     let mut space = [FILL; LONGEST_BUFFER];
     if let Some(buf) = space.get_mut(..call.room) {
-        edit_into(m, call.other, call.block.bytes(text), buf);
+        edit_into(m, device, call.block.bytes(text), buf);
     }
     Some(call.block.next)
 }

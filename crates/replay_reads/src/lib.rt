@@ -59,6 +59,6 @@ pub fn answer(d: &Document, text: &[u8], a: usize) -> Option<usize> {
     if let Some(call) = lent_of(text, a, b"values ") {
         return Some(read(d, Ask::Values, text, call));
     }
-    let call = lent_with_number(text, a, b"element ")?;
-    Some(read(d, Ask::Element(call.other), text, call))
+    let (index, call) = lent_with_number(text, a, b"element ")?;
+    Some(read(d, Ask::Element(index), text, call))
 }

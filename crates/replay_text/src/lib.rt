@@ -1,6 +1,7 @@
 // What the parts of the program `replay` share (docs/REPLAY.md): a call whose first line has one number, and the lines of answers.
 #![tactic(auto)]
 
+use readers::take_byte;
 use script::{BlockFound, block, number};
 
 // Where the answers are written.
@@ -11,11 +12,10 @@ pub const LONGEST_BUFFER: usize = 65536;
 
 pub const FILL: u8 = 165;
 
-// A call with a block and a buffer: the block, the buffer's size, and a number that stands between the block's and the buffer's.
+// A call with a block and a buffer: the block, and the buffer's size.
 #[derive(Clone, Copy)]
 pub struct Lent {
     pub block: BlockFound,
-    pub other: u64,
     pub room: usize,
 }
 
@@ -26,12 +26,11 @@ pub fn block_of(text: &[u8], a: usize, name: &[u8]) -> Option<BlockFound> {
 }
 
 // A first line that goes on with the buffer's size and ends there, and the block of n bytes.
-fn with_buffer(text: &[u8], a: usize, n: u64, other: u64) -> Option<Lent> {
+fn with_buffer(text: &[u8], a: usize, n: u64) -> Option<Lent> {
     let (room, end) = number(text, a, b" ", LONGEST_BUFFER as u64)?;
     let block = block(text, end, n)?;
     Some(Lent {
         block,
-        other,
         room: room as usize,
     })
 }
@@ -39,14 +38,21 @@ fn with_buffer(text: &[u8], a: usize, n: u64, other: u64) -> Option<Lent> {
 // A call with this name, whose first line has the numbers of the block's and the buffer's bytes.
 pub fn lent_of(text: &[u8], a: usize, name: &[u8]) -> Option<Lent> {
     let (n, next) = number(text, a, name, u64::MAX)?;
-    with_buffer(text, next, n, 0)
+    with_buffer(text, next, n)
 }
 
-// The same with a number between the two.
-pub fn lent_with_number(text: &[u8], a: usize, name: &[u8]) -> Option<Lent> {
+// The same with a number between the two, which comes first.
+pub fn lent_with_number(text: &[u8], a: usize, name: &[u8]) -> Option<(u64, Lent)> {
     let (n, b) = number(text, a, name, u64::MAX)?;
     let (other, next) = number(text, b, b" ", u64::MAX)?;
-    with_buffer(text, next, n, other)
+    Some((other, with_buffer(text, next, n)?))
+}
+
+// `save`, whose first line has a number of at most `most` and no more; and where the next call begins.
+pub fn save_of(text: &[u8], a: usize, most: u64) -> Option<(u64, usize)> {
+    let (n, end) = number(text, a, b"save ", most)?;
+    let next = take_byte(text, end, b'\n')?;
+    Some((n, next))
 }
 
 pub fn say(text: &[u8]) {

@@ -1,6 +1,6 @@
 -- A round of settling, from a sweep and an operation that is applied; and settling, round by round.
 -- Assumes nothing.
-use Prim.Native.Nat.{ℕ, ◌+◌, ◌-◌, ◌≤◌, ◌<◌}
+use Prim.Native.Nat.{ℕ, ◌+◌, ◌-◌}
 use native.Mathlib.Omega.{arith}
 use mathlib.Core.Path.{◌≡◌, refl, ap, ◌∙◌}
 use mathlib.Core.Bool.{true, false, not, false≢true, true≢false}
@@ -18,7 +18,7 @@ use Rattle.keeping.specs.Storing.{StoresIn}
 use Rattle.keeping.specs.declared.Document as K
 use Rattle.judging.specs.Judging.{is_taken, verdict}
 use Rattle.apply.specs.Applying.{TakesOn}
-use Rattle.waiting.specs.Waits.{Waits, Gone, Tells, TakesOut}
+use Rattle.waiting.specs.Waits.{Waits, Holds, Tells, TakesOut}
 use Rattle.waiting.proofs.Holds.{all-at}
 use Rattle.keeping.specs.declared.Memory.{Memory}
 use Rattle.settling.specs.declared.Rounded.{Rounded}
@@ -67,17 +67,16 @@ module _ (M : Memory) (f : Option ℕ) (N : Memory) (S : Sweeps M f N) where
       rounds = λ X K. absurd (read (one X K).ahead (one X K).behind (one X K).one (placed X K) (one X K).place);
     }
 
-    module _ (t : List ℕ) (n : ℕ) (out : TakesOut N.waiting N.count k t n) where
-      removed : (X : Terminal) (K : Keeps M X) → Gone N.count ((one X K).ahead ++ (one X K).behind) t n
-      unfolding TakesOut
-      removed X K = out (one X K).ahead (one X K).behind (one X K).one (placed X K) (one X K).place
+    module _ (t : List ℕ) (r : Option ℕ) (out : TakesOut N.waiting N.count k t r) where
+      removed : (X : Terminal) (K : Keeps M X) → Holds t r ((one X K).ahead ++ (one X K).behind)
+      removed X K = out.waits (one X K).ahead (one X K).behind (one X K).one (placed X K) (one X K).place
 
-      -- and has one less without it
-      pub rounds_cut : N.count ≤ n → Rounds M (record { applied = false; dropped = dropped }) (holding N t N.count)
-      rounds_cut h = record {
+      -- and it is taken out
+      pub rounds_cut : r ≡ None → Rounds M (record { applied = false; dropped = dropped }) (holding N t N.count)
+      rounds_cut y = record {
         fewer = omega (arith, S.fewer);
         less = λ b. absurd (false≢true b);
-        rounds = λ X K. absurd (omega (arith, (removed X K).fewer));
+        rounds = λ X K. absurd (rw y at (removed X K));
       }
 
       module _ (op : Held.Operation) (read : Tells N.waiting N.count k (Some op)) (d : K.Document) (A : TakesOn N.document op d) where
@@ -101,11 +100,11 @@ module _ (M : Memory) (f : Option ℕ) (N : Memory) (S : Sweeps M f N) where
             let m = read q.ahead q.behind q.one (placed X K) q.place in
             A X.document q.one (S.sweeps X K).keeps.document m (sent X K).valid (taken X K)
 
-        pub rounds_on : n < N.count
+        pub rounds_on : (n : ℕ) → r ≡ Some n
             → Rounds M (record { applied = true; dropped = dropped }) (record { document = d; waiting = t; count = n })
-        rounds_on h = record {
-          fewer = omega (arith, S.fewer);
-          less = λ b. omega (arith, S.fewer);
+        rounds_on n y = record {
+          fewer = omega (arith, S.fewer, out.fewer n y);
+          less = λ b. omega (arith, S.fewer, out.fewer n y);
           rounds = λ X K.
               let q = one X K in
               record {
@@ -116,7 +115,7 @@ module _ (M : Memory) (f : Option ℕ) (N : Memory) (S : Sweeps M f N) where
                   picked = q.first;
                   keeps = record {
                     document = stored X K;
-                    waiting = rw (q.whole, without_at q.ahead q.behind q.one (placed X K).ascending) (removed X K).waits;
+                    waiting = rw (q.whole, without_at q.ahead q.behind q.one (placed X K).ascending) (rw y at (removed X K));
                     sent = next-all Sent X q.one K.sent;
                   };
                 };

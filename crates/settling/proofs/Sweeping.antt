@@ -15,7 +15,7 @@ use Rattle.meaning.specs.Receive.{Terminal, dead, able}
 use Rattle.theorems.specs.Invariant.{Sent}
 use Rattle.theorems.specs.Keep.{keep_nil, keep_yes, keep_no, keep_append}
 use Rattle.judging.specs.Judging.{Judgement, is_taken, verdict}
-use Rattle.waiting.specs.Waits.{Gone, TakesOut}
+use Rattle.waiting.specs.Waits.{Holds, TakesOut}
 use Rattle.waiting.proofs.Holds.{all-at, all_but}
 use Rattle.keeping.specs.declared.Memory.{Memory}
 use Rattle.settling.specs.Verdicts.{deadly}
@@ -122,16 +122,16 @@ module _ (M : Memory) (X : Terminal) (i : ℕ) (f : Option ℕ) where
     is-dead w = ap (λ z. deadly z) (judged w) ∙ deadly-verdict X.document w.one (above w).above
 
     -- it is dropped
-    module _ (t : List ℕ) (n : ℕ) (out : TakesOut M.waiting M.count i t n) where
-      gone : (w : Turn) → Gone M.count (live X.document w.passed ++ w.rest) t n
-      unfolding TakesOut
-      gone w = out (live X.document w.passed) w.rest w.one w.keeps.waiting w.place
+    module _ (t : List ℕ) (r : Option ℕ) (out : TakesOut M.waiting M.count i t r) where
+      gone : (w : Turn) → Holds t r (live X.document w.passed ++ w.rest)
+      gone w = out.waits (live X.document w.passed) w.rest w.one w.keeps.waiting w.place
 
-      pub one_less : n + 1 ≡ M.count
-      one_less = (gone (turn S l)).fewer
+      -- one is taken out
+      pub gone-one : r ≡ None → ⊥
+      gone-one e = rw e at (gone (turn S l))
 
-      pub drops : deadly v ≡ true → Sweeping (holding M t n) X i f
-      drops d =
+      pub drops : (n : ℕ) → r ≡ Some n → deadly v ≡ true → Sweeping (holding M t n) X i f
+      drops n y d =
           let w = turn S l in
           let e = live-dead X.document w.passed w.one (sym (is-dead w) ∙ d) in
           record {
@@ -140,7 +140,7 @@ module _ (M : Memory) (X : Terminal) (i : ℕ) (f : Option ℕ) where
             whole = w.whole;
             keeps = rw e (record {
               document = w.keeps.document;
-              waiting = (gone w).waits;
+              waiting = rw y at (gone w);
               sent = all_but Sent (live X.document w.passed) w.rest w.one w.keeps.sent;
             });
             place = rw e w.place;

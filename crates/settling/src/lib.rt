@@ -61,16 +61,12 @@ fn sweep(m: &mut Memory) -> Option<usize>
     let mut i: usize = 0;
     while i < m.count {
         let n = m.count;
-        if waiting::early(&m.waiting, n, i, &m.document.seen.at) {
+        if waiting::early(&m.waiting, n, i, &m.document.seen) {
             i += 1;
         } else {
             let j = look(m, i)?;
             if is_dead(j) {
-                let left = waiting::take_out(&mut m.waiting, n, i);
-                if left >= n {
-                    return None;
-                }
-                m.count = left;
+                m.count = waiting::take_out(&mut m.waiting, n, i)?;
             } else {
                 if able.is_none() && is_taken(j) {
                     able = Some(i);
@@ -98,10 +94,9 @@ fn round(m: &mut Memory) -> Rounded
     let Some(op) = waiting::op_at(&m.waiting, m.count, i) else {
         return idle;
     };
-    let left = waiting::take_out(&mut m.waiting, m.count, i);
-    if left >= m.count {
+    let Some(left) = waiting::take_out(&mut m.waiting, m.count, i) else {
         return idle;
-    }
+    };
     m.count = left;
     apply::take(&mut m.document, op);
     Rounded {

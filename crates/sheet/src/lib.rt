@@ -36,8 +36,9 @@ fn sheet_of<'a>(t: &'a Tables, rows: usize, seen: Counters) -> Sheet<'a>
     )
 }
 
-// Saves the tables' document: answers how many bytes were written, or, with the buffer as it was, how many are needed. Of counts that have
-// no room in the tables no buffer is long enough.
+// Saves the tables' document, which is lent in parts, since `Document` stands in a crate that isn't below this one: answers how many
+// bytes were written, or, with the buffer as it was, how many are needed. Of counts that have no room in the tables no buffer is long
+// enough.
 pub fn save(t: &Tables, c: Counts, seen: Counters, buf: &mut [u8]) -> Saved
     ensures { Saving t.now c seen buf.old result buf.new }
 {

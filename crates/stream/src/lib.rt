@@ -30,7 +30,7 @@ const OP_LINE: [u8; 5] = *b"op=1\n";
 // How many bytes a message has at most.
 const LONGEST: usize = 463;
 
-// The place where the message that begins at a ends.
+// The place where the message that begins at a ends. By places, which are what is answered.
 pub fn next_message(s: &[u8], a: usize) -> usize
     ensures { Ends s.now a result }
 {

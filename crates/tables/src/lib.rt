@@ -35,7 +35,8 @@ pub const VALUE_WORDS: usize = 6;
 // The deepest depth of a place.
 pub const DEEPEST: u64 = 8;
 
-// The four tables of a document, in lent memory.
+// The four tables of a document, in lent memory. Arrays of words and no rows of structs: memory is fixed, a row has as many marks and
+// values as it has, and equal documents have equal words (specs/Once).
 #[derive(Drop)]
 pub struct Tables {
     pub heads: [u64; HEADS],
@@ -94,7 +95,7 @@ pub struct Counts {
 }
 
 // What is looked for: a key, an element, the seat of a new element behind its predecessor or behind the head, or the end of what hangs
-// there.
+// there. An enum and no closure: the clauses (`passes_one`, `is_sought`) name the aims.
 #[derive(Clone, Copy)]
 pub enum Aim {
     Key,

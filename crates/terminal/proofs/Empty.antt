@@ -2,31 +2,16 @@
 -- Assumes nothing.
 use native.Mathlib.Omega.{arith}
 use mathlib.Core.Path.{refl}
-use lib.ListN.{replicate}
-use Rattle.meaning.specs.Ids.{zeros}
 use Rattle.meaning.specs.Receive.{new_terminal}
 use Rattle.meaning.specs.Sheet.{rows_of, rows_children}
 use Rattle.meaning.specs.Load.{marks_in, values_in}
 use Rattle.theorems.specs.Soundness.{sound_empty, fits_empty}
 use Rattle.tables.specs.Words.{heads_of, keys_of, marks_of, values_of}
-use Rattle.tables.specs.Holding.{heads_room, keys_room, marks_room, values_room, four}
 use Rattle.words.specs.Rows.{flat}
-use Rattle.waiting.specs.Waits.{room}
 use Rattle.keeping.specs.Keeping.{Keeps}
-use Rattle.keeping.specs.declared.Memory.{Memory}
+use Rattle.terminal.specs.Promises.{Empties, zero_memory}
 
-abbrev empty : Memory
-empty = record {
-  document = record {
-    tables = four (replicate heads_room 0) (replicate keys_room 0) (replicate marks_room 0) (replicate values_room 0);
-    counts = record { rows = 0; marks = 0; values = 0 };
-    seen = record { at = zeros };
-  };
-  waiting = replicate room 0;
-  count = 0;
-}
-
-pub new_keeps : Keeps empty new_terminal
+pub new_keeps : Keeps zero_memory new_terminal
 unfolding rows_of rows_children heads_of keys_of marks_of values_of marks_in values_in flat
 new_keeps = record {
   document = record {
@@ -50,3 +35,6 @@ new_keeps = record {
   waiting = record { table = refl; count = refl; fit = omega arith; ascending = tt; valid = tt };
   sent = tt;
 }
+
+pub new_empties : Empties zero_memory
+new_empties = (refl, new_keeps)

@@ -2,12 +2,15 @@
 -- Assumes nothing.
 use Prim.Native.Nat.{ℕ, suc, ◌+◌, ◌≤◌, ◌<◌}
 use native.Mathlib.Omega.{arith}
+use mathlib.Core.Logic.{inl}
+use Rattle.std.proofs.Math.Nat.{lt_of_not-le}
 use mathlib.Core.Path.{◌≡◌, refl, sym, ap, subst, ◌∙◌}
 use mathlib.Core.Bool.{Bool, true, false, cond, false≢true, true≢false}
 use mathlib.Core.List.{List}
 use lib.ListN.{length}
 use borrow.Author.Tests.{le-leb, lt-leb}
-use Rattle.std.specs.Prelude.{Option, Some, Ok, Err}
+use Rattle.std.specs.Prelude.{Option, Some, None, Ok, Err}
+use Rattle.std.proofs.lemmas.Option.{none-some}
 use Rattle.meaning.specs.Apply.{apply}
 use Rattle.meaning.specs.Limits.{fits}
 use Rattle.meaning.specs.Ways.{Operation}
@@ -104,35 +107,52 @@ module _ (M : Memory) (op : Held.Operation) (b : Bool) (W : TellsWaits M.waiting
     document = refl;
   }
 
-  pub awaits_full : b ≡ false → 64 ≤ M.count → Awaits M op (Err R.WaitingFull) M
-  unfolding finish judge_early
-  awaits_full e l = record {
-    waits = λ X o K m h.
-        let q : waits o.id X.waiting ≡ false = sym (told X o K m) ∙ e in
-        let f = le-leb 64 (length X.waiting) (omega (arith, K.waiting.count)) in
-        record { answers = rw (q, f) refl; keeps = rw (q, f) K };
-    stays = λ _. refl;
-    document = refl;
-  }
+  module _ (e : b ≡ false) (t : List ℕ) (r : Option ℕ) (P : Puts op M.waiting M.count t r) where
+    free : (X : Terminal) (o : Operation) → Keeps M X → Means op o → waits o.id X.waiting ≡ false
+    free X o K m = sym (told X o K m) ∙ e
 
-  pub awaits_put : b ≡ false → M.count < 64 → (t : List ℕ) (n : ℕ) → Puts op M.waiting M.count t n
-      → Awaits M op (Ok D.Waiting) (holding M t n)
-  unfolding finish judge_early
-  awaits_put e l t n P = record {
-    waits = λ X o K m h.
-        let q : waits o.id X.waiting ≡ false = sym (told X o K m) ∙ e in
-        let f = lt-leb 64 (length X.waiting) (omega (arith, K.waiting.count)) in
-        record {
-          answers = rw (q, f) refl;
-          keeps = rw (q, f) (record {
-            document = K.document;
-            waiting = P.waits X.waiting o m h.valid K.waiting q l;
-            sent = all_put Sent id_of o X.waiting h K.sent;
-          });
-        };
-    stays = λ u. absurd u;
-    document = refl;
-  }
+    -- where nothing is put in, there is no room
+    none : (X : Terminal) (o : Operation) → Keeps M X → Means op o → Sent o → r ≡ None → 64 ≤ length X.waiting
+    none X o K m h y =
+        let l : 63 < length X.waiting = lt_of_not-le (λ s.
+        rw y at (P.waits X.waiting o m h.valid K.waiting (free X o K m) (omega (arith, s, K.waiting.count)))) in
+        omega (arith, l)
+
+    pub awaits_full : r ≡ None → Awaits M op (Err R.WaitingFull) (holding M t M.count)
+    unfolding finish judge_early
+    awaits_full y =
+        let s : holding M t M.count ≡ M = ap (λ z. holding M z M.count) (P.nothing y) in
+        rw s (record {
+          waits = λ X o K m h.
+              let f = le-leb 64 (length X.waiting) (none X o K m h y) in
+              record { answers = rw (free X o K m, f) refl; keeps = rw (free X o K m, f) K };
+          stays = λ _. refl;
+          document = refl;
+        })
+
+    -- where it is, there was
+    some : (X : Terminal) (n : ℕ) → r ≡ Some n → Keeps M X → length X.waiting < 64
+    some X n y K =
+        lt_of_not-le (λ l. none-some n (sym (P.stays (inl (omega (arith, l, K.waiting.count)))).1 ∙ y))
+
+    pub awaits_put : (n : ℕ) → r ≡ Some n → Awaits M op (Ok D.Waiting) (holding M t n)
+    unfolding finish judge_early
+    awaits_put n y = record {
+      waits = λ X o K m h.
+          let q = free X o K m in
+          let l = some X n y K in
+          let f = lt-leb 64 (length X.waiting) l in
+          record {
+            answers = rw (q, f) refl;
+            keeps = rw (q, f) (record {
+              document = K.document;
+              waiting = rw y at (P.waits X.waiting o m h.valid K.waiting q (omega (arith, l, K.waiting.count)));
+              sent = all_put Sent id_of o X.waiting h K.sent;
+            });
+          };
+      stays = λ u. absurd u;
+      document = refl;
+    }
 
 -- Memory that counts more than has room in its tables.
 pub receives_beyond : (M : Memory) (bytes : List ℕ) → within_memory M ≡ false → Receiving M bytes (Err R.NoRoom) M

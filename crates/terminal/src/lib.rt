@@ -3,9 +3,7 @@
 #![tactic(auto)]
 
 ghost use Rattle.std.specs.Prelude.{◌≡◌};
-ghost use Rattle.meaning.specs.Receive.{new_terminal};
-ghost use Rattle.keeping.specs.Keeping.{Keeps};
-ghost use Rattle.terminal.specs.Promises.{Awaits, Receiving};
+ghost use Rattle.terminal.specs.Promises.{Empties, Awaits, Receiving};
 
 use judging::Readiness;
 use keeping::{Document, Memory};
@@ -13,12 +11,12 @@ use meaning::{Counters, Receipt, ReceiveError, Received};
 use message::Operation;
 use settling::settle;
 use tables::{Counts, HEADS, KEYS, MARKS, Tables, VALUES};
-use waiting::{MOST, WAITING};
+use waiting::WAITING;
 
 // The memory of a new terminal: every word is 0, and none is live.
-#[tactic(auto, using(crate::proofs::Empty::new_keeps))]
+#[tactic(auto, using(crate::proofs::Empty::new_empties))]
 pub fn new() -> Memory
-    ensures { Keeps result new_terminal }
+    ensures { Empties result }
 {
     Memory {
         document: Document {
@@ -40,18 +38,35 @@ pub fn new() -> Memory
     }
 }
 
+// The same, in memory that is there: no word of it stays.
+#[tactic(auto, using(crate::proofs::Empty::new_empties))]
+pub fn reset(m: &mut Memory)
+    ensures { Empties m.new }
+{
+    let d = &mut m.document;
+    d.tables.heads.fill(0);
+    d.tables.keys.fill(0);
+    d.tables.marks.fill(0);
+    d.tables.values.fill(0);
+    d.counts = Counts {
+        rows: 0,
+        marks: 0,
+        values: 0,
+    };
+    d.seen = Counters { at: [0u32; 8] };
+    m.waiting.fill(0);
+    m.count = 0;
+}
+
 // An operation that comes too early: 6, 7, else it waits.
-#[tactic(auto, using(crate::proofs::Receiving::awaits_again, crate::proofs::Receiving::awaits_full, crate::proofs::Receiving::awaits_put))]
+#[tactic(auto, using(crate::proofs::Receiving::awaits_again))]
 fn wait(m: &mut Memory, op: Operation) -> Receipt
     ensures { Awaits m.old op result m.new }
 {
     if waiting::waits(&m.waiting, m.count, op.act.id) {
         return Err(ReceiveError::WaitsAlready);
     }
-    if m.count >= MOST {
-        return Err(ReceiveError::WaitingFull);
-    }
-    m.count = waiting::put(&mut m.waiting, m.count, op);
+    m.count = waiting::put(&mut m.waiting, m.count, op).ok_or(ReceiveError::WaitingFull)?;
     Ok(Received::Waiting)
 }
 

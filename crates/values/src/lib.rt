@@ -1,6 +1,7 @@
-// The values of a row of the document's tables: those that are covered go, and one comes. Each function is safe on any memory: a place, a
-// count or a table that doesn't fit is found before the first word is written. What they promise of tables that hold rows is in
-// specs/Values.
+// The values of a row of the document's tables: those that are covered go, and one comes. Each function is safe on any memory: a place,
+// a count or a table that doesn't fit is found before the first word is written. What they promise of tables that hold rows is in
+// specs/Values. Each is lent only the tables that it changes (docs/DECISIONS.md, 40). A guard that stops answers the counts as they were
+// and no Option: in memory that holds rows none stops.
 #![tactic(auto)]
 
 ghost use Rattle.std.specs.Prelude.{◌+◌, ◌≤◌, ◌≡◌, ◌∷◌, length};

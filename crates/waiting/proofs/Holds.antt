@@ -22,7 +22,7 @@ use Rattle.words.specs.Rows.{rank_rows, rank_of, flat}
 use Rattle.words.proofs.Flat.{rank_yes, rank_no, flat_append, flat_between, flat_length, flat_rank}
 use Rattle.words.proofs.Padded.{pad-length, closed-pad, put_more, put_pad}
 use Rattle.waiting.specs.Rows.{op_words}
-use Rattle.waiting.specs.Waits.{room, id_of, Waits, Gone}
+use Rattle.waiting.specs.Waits.{room, id_of, Waits}
 use Rattle.waiting.proofs.Ops.{op_long, strides_ops}
 
 rows_long : (os : List Operation) → length (flat op_words os) ≡ length os * 40
@@ -75,7 +75,7 @@ asc_but number (x ∷ A) R o s = (λ j h. s.0 j (has_but number A R o j h), asc_
 
 -- One less.
 pub taken_out : (t t' : List ℕ) (n i : ℕ) (A R : List Operation) (o : Operation) → Waits t n (A ++ o ∷ R) → i ≡ length A
-    → t' ≡ closed 0 (40 * n) (40 * i + 40) (40 * i) t → Gone n (A ++ R) t' (n - 1)
+    → t' ≡ closed 0 (40 * n) (40 * i + 40) (40 * i) t → Waits t' (n - 1) (A ++ R)
 taken_out t t' n i A R o W e c =
     let l = length-append A (o ∷ R) in
     let m = length-append A R in
@@ -85,18 +85,15 @@ taken_out t t' n i A R o W e c =
     let k = W.count in
     let f = W.fit in
     record {
-      waits = record {
-        table =
-            c ∙ (ap (closed 0 (40 * n) (40 * i + 40) (40 * i)) (W.table ∙ ap (pad room) (flat_between 40 op_words id_of strides_ops A o R))
-            ∙ (closed-pad room (40 * i) (40 * i + 40) (40 * n) (flat op_words A) (op_words o) (flat op_words R) (omega arith) (omega arith)
-            (omega arith) (omega arith)
-            ∙ ap (pad room) (sym (flat_append 40 op_words id_of strides_ops A R))));
-        count = omega arith;
-        fit = omega arith;
-        ascending = asc_but id_of A R o W.ascending;
-        valid = all_but ValidOperation A R o W.valid;
-      };
-      fewer = omega arith;
+      table =
+          c ∙ (ap (closed 0 (40 * n) (40 * i + 40) (40 * i)) (W.table ∙ ap (pad room) (flat_between 40 op_words id_of strides_ops A o R))
+          ∙ (closed-pad room (40 * i) (40 * i + 40) (40 * n) (flat op_words A) (op_words o) (flat op_words R) (omega arith) (omega arith)
+          (omega arith) (omega arith)
+          ∙ ap (pad room) (sym (flat_append 40 op_words id_of strides_ops A R))));
+      count = omega arith;
+      fit = omega arith;
+      ascending = asc_but id_of A R o W.ascending;
+      valid = all_but ValidOperation A R o W.valid;
     }
 
 -- Whether one waits, by its rank.

@@ -4,8 +4,9 @@ use Prim.Native.Nat.{ℕ, ◌+◌, ◌*◌, ◌-◌, ◌%◌, ◌≤◌, ◌<◌
 use mathlib.Core.Path.{◌≡◌, refl, sym, ap, ◌∙◌}
 use mathlib.Core.Bool.{Bool, true, false, not}
 use mathlib.Core.List.{List, ◌∷◌, ◌++◌}
-use Rattle.std.proofs.Common.{Some}
-use mathlib.Core.Logic.{⊎_elim}
+use Rattle.std.proofs.Common.{Some, None}
+use Rattle.std.proofs.lemmas.Option.{none-some, same_Some}
+use mathlib.Core.Logic.{◌⊎◌, ⊎_elim}
 use native.Mathlib.Omega.{arith}
 use borrow.Author.Tests.{lt-ltb, le-ltb, eq-eqb, ne_eqb}
 use lib.Dec.{eqb}
@@ -21,7 +22,7 @@ use Rattle.message.specs.declared.Operation as M
 use Rattle.waiting.specs.Rows.{counters, held_words, op_words, ReadsRow}
 use Rattle.waiting.specs.Waits.{room, id_of, Waits, TellsEarly, Tells, TellsWaits, Puts, TakesOut}
 use Rattle.waiting.proofs.Ops.{op_long, means_words, id_there, entry_there, deps_there, row_means}
-use Rattle.waiting.proofs.Holds.{table_long, rank_is, behind, there, before_long, all-at, taken_out, waits_past, waits-at, put_in}
+use Rattle.waiting.proofs.Holds.{table_long, among, rank_is, behind, there, before_long, all-at, taken_out, waits_past, waits-at, put_in}
 
 module _ (t : List ℕ) (n i : ℕ) where
   valid_there : (A R : List Operation) (o : Operation) → Waits t n (A ++ o ∷ R) → ValidOperation o
@@ -87,9 +88,24 @@ module _ (t : List ℕ) (n i : ℕ) where
       row_means (flat op_words A) (behind A o R) o (40 * i) (before_long t n i A R o W e) (valid_there A R o W) r
       (rw (there t n i A R o W e) at q)
 
-  pub takes_out : (t' : List ℕ) → t' ≡ closed 0 (40 * n) (40 * i + 40) (40 * i) t → TakesOut t n i t' (n - 1)
-  unfolding TakesOut
-  takes_out t' c A R o W e = taken_out t t' n i A R o W e c
+  pub takes_out : i < n → (t' : List ℕ) → t' ≡ closed 0 (40 * n) (40 * i + 40) (40 * i) t → TakesOut t n i t' (Some (n - 1))
+  takes_out h t' c = record {
+    waits = λ A R o W e. taken_out t t' n i A R o W e c;
+    fewer = λ k e. omega (arith, h, same_Some _ _ e);
+    nothing = λ e. absurd (none-some _ (sym e));
+  }
+
+  -- where nothing can be taken out
+  pub takes_none : (length t < room) ⊎ ((64 < n) ⊎ (n ≤ i)) → TakesOut t n i t None
+  takes_none z = record {
+    waits = λ A R o W e.
+        let l = table_long t n (A ++ o ∷ R) W in
+        let f = W.fit in
+        let a = among t n i A R o W e in
+        absurd (⊎_elim (λ p. omega arith) (⊎_elim (λ p. omega arith) (λ p. omega arith)) z);
+    fewer = λ k e. absurd (none-some _ e);
+    nothing = λ _. refl;
+  }
 
 module _ (t : List ℕ) (n id k : ℕ) (K : Ranked n (rank_rows 40 id n (drop 0 t)) k) where
   pub waits_none : n ≤ k → TellsWaits t n id false
@@ -106,7 +122,7 @@ module _ (t : List ℕ) (n id k : ℕ) (K : Ranked n (rank_rows 40 id n (drop 0 
 pub puts : (op : M.Operation) (t t₁ t₂ : List ℕ) (n k : ℕ) → room ≤ length t → n < 64 → Ranked n (rank_rows 40 op.act.id n (drop 0 t)) k
     → t₁ ≡ opened (40 * n) (40 * k) 40 t
     → t₂ ≡ over_at (40 * k) (held_words op) t₁
-    → Puts op t n t₂ (n + 1)
+    → Puts op t n t₂ (Some (n + 1))
 puts op t t₁ t₂ n k x y K a b =
     record {
       waits = λ os o m v W u h.
@@ -115,12 +131,13 @@ puts op t t₁ t₂ n k x y K a b =
           put_in t t₂ n k os o W v u h (rw m.id at K.is)
           (b ∙ (rw (means_words op o m v, a) (ap (λ z. over_at (40 * k) (op_words o) (opened (40 * n) (40 * k) z t)) (sym l) ∙ w)));
       stays = λ z. absurd (⊎_elim (λ p. omega arith) (λ p. omega arith) z);
+      nothing = λ e. absurd (none-some _ (sym e));
     }
 
 -- a full table
-pub full : (op : M.Operation) (t : List ℕ) (n : ℕ) → 64 ≤ n → Puts op t n t n
-full op t n x = record { waits = λ os o m v W u h. absurd (omega arith); stays = λ _. (refl, refl) }
+pub full : (op : M.Operation) (t : List ℕ) (n : ℕ) → 64 ≤ n → Puts op t n t None
+full op t n x = record { waits = λ os o m v W u h. absurd (omega arith); stays = λ _. (refl, refl); nothing = λ _. refl }
 
 -- one that is too short
-pub short : (op : M.Operation) (t : List ℕ) (n : ℕ) → length t < room → Puts op t n t n
-short op t n x = record { waits = λ os o m v W u h. absurd (omega (arith, table_long t n os W)); stays = λ _. (refl, refl) }
+pub short : (op : M.Operation) (t : List ℕ) (n : ℕ) → length t < room → Puts op t n t None
+short op t n x = record { waits = λ os o m v W u h. absurd (omega (arith, table_long t n os W)); stays = λ _. (refl, refl); nothing = λ _. refl }

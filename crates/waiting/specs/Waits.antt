@@ -49,18 +49,21 @@ Tells t n i r = (A R : List Operation) (o : Operation) → Waits t n (A ++ o ∷
 unfoldable pub TellsWaits : List ℕ → ℕ → ℕ → Bool → Type 0
 TellsWaits t n id r = (os : List Operation) → Waits t n os → r ≡ waits id os
 
+-- the table holds these operations afterwards, so many
+abbrev pub Holds : List ℕ → Option ℕ → List Operation → Type 0
+Holds t (Some n) os = Waits t n os
+Holds t None os = ⊥
+
 -- One more, which didn't wait. A full table, or one that is too short, stays as it was.
-pub record Puts (op : M.Operation) (t : List ℕ) (n : ℕ) (t' : List ℕ) (r : ℕ) : Type 0 where
+pub record Puts (op : M.Operation) (t : List ℕ) (n : ℕ) (t' : List ℕ) (r : Option ℕ) : Type 0 where
   pub waits :
       (os : List Operation) (o : Operation) → Means op o → ValidOperation o → Waits t n os → waits o.id os ≡ false → n < 64
-      → Waits t' r (put id_of o os)
-  pub stays : (64 ≤ n) ⊎ (length t < room) → (t' ≡ t) × (r ≡ n)
+      → Holds t' r (put id_of o os)
+  pub stays : (64 ≤ n) ⊎ (length t < room) → (t' ≡ t) × (r ≡ None)
+  pub nothing : r ≡ None → t' ≡ t
 
--- one is gone, and those that are left are os
-pub record Gone (n : ℕ) (os : List Operation) (t' : List ℕ) (r : ℕ) : Type 0 where
-  pub waits : Waits t' r os
-  pub fewer : r + 1 ≡ n
-
-unfoldable pub TakesOut : List ℕ → ℕ → ℕ → List ℕ → ℕ → Type 0
-TakesOut t n i t' r =
-    (A R : List Operation) (o : Operation) → Waits t n (A ++ o ∷ R) → i ≡ length A → Gone n (A ++ R) t' r
+-- the operation at i is gone
+pub record TakesOut (t : List ℕ) (n i : ℕ) (t' : List ℕ) (r : Option ℕ) : Type 0 where
+  pub waits : (A R : List Operation) (o : Operation) → Waits t n (A ++ o ∷ R) → i ≡ length A → Holds t' r (A ++ R)
+  pub fewer : (k : ℕ) → r ≡ Some k → k + 1 ≡ n
+  pub nothing : r ≡ None → t' ≡ t

@@ -1,6 +1,6 @@
 // The waiting operations in lent memory: a table of 2560 words, forty for an operation, in ascending order of their ids, then zeros. Each
 // function is safe on any memory: a place, a count or a table that doesn't fit is found before a word is read or written. What they
-// promise of a table that holds operations says specs/Waits.
+// promise of a table that holds operations says specs/Waits. Table and count are lent one by one: `Memory`, which has both, stands above.
 #![tactic(auto)]
 
 mod row;
@@ -21,16 +21,16 @@ pub const ROW: usize = 40;
 
 pub const MOST: usize = 64;
 
-// Whether the operation at i comes too early where these are the entries of seen: it isn't ready, and not dead by the entry of its own
+// Whether the operation at i comes too early where this is what is seen: it isn't ready, and not dead by the entry of its own
 // terminal. That entry alone tells it of most.
-pub fn early(t: &[u64], n: usize, i: usize, seen: &[u32; 8]) -> bool
-    ensures { TellsEarly t.now n i seen.now result }
+pub fn early(t: &[u64], n: usize, i: usize, seen: &Counters) -> bool
+    ensures { TellsEarly t.now n i seen.now.at result }
 {
     if t.len() < WAITING || n > MOST || i >= n {
         return false;
     }
     let own = (t[ROW * i] % 8) as usize;
-    let last = u64::from(seen[own]);
+    let last = u64::from(seen.at[own]);
     let entry = t[ROW * i + 1 + own];
     if entry < last {
         return false;
@@ -39,8 +39,7 @@ pub fn early(t: &[u64], n: usize, i: usize, seen: &[u32; 8]) -> bool
         return true;
     }
     let deps = counters_at(t, ROW * i + 1);
-    let all = Counters { at: *seen };
-    let ready = at_most(deps, all);
+    let ready = at_most(deps, *seen);
     !ready
 }
 
@@ -65,26 +64,26 @@ pub fn waits(t: &[u64], n: usize, id: u64) -> bool
     k < n && id == t[ROW * k]
 }
 
-// Puts an operation among those that wait, none of which has its id, and answers how many they are.
-pub fn put(t: &mut [u64], n: usize, op: Operation) -> usize
+// Puts an operation among those that wait, none of which has its id, and answers how many they are; or nothing is done.
+pub fn put(t: &mut [u64], n: usize, op: Operation) -> Option<usize>
     ensures { Puts op t.old n t.new result }
 {
     if t.len() < WAITING || n >= MOST {
-        return n;
+        return None;
     }
     let at = ROW * rank_rows::<ROW>(t, 0, n, op.act.id);
     open(t, ROW * n, at, ROW);
     write_row(t, at, op);
-    n + 1
+    Some(n + 1)
 }
 
-// Takes out the operation at i, and answers how many are left.
-pub fn take_out(t: &mut [u64], n: usize, i: usize) -> usize
+// Takes out the operation at i, and answers how many are left; or nothing is done.
+pub fn take_out(t: &mut [u64], n: usize, i: usize) -> Option<usize>
     ensures { TakesOut t.old n i t.new result }
 {
     if t.len() < WAITING || n > MOST || i >= n {
-        return n;
+        return None;
     }
     close(t, ROW * n, ROW * i + ROW, ROW * i);
-    n - 1
+    Some(n - 1)
 }

@@ -1,20 +1,19 @@
 // The calls of a turn: found in the script once, kept, and made in each turn.
 use keeping::Memory;
-use readers::take_byte;
-use replay_text::{LONGEST_BUFFER, Lent, block_of, lent_of, lent_with_number};
-use script::{BlockFound, number};
+use replay_text::{LONGEST_BUFFER, Lent, block_of, lent_of, lent_with_number, save_of};
+use script::BlockFound;
 
 // The most calls of a turn.
 pub const MOST: usize = 512;
 
-// A call in the script. The number beside the block of an edit is the device's, that of a read for an element is the element's.
+// A call in the script: of an edit with the device's number, of a read for an element with the element's.
 #[derive(Clone, Copy)]
 pub enum Call {
     Receive(BlockFound),
-    Edit(Lent),
+    Edit(u64, Lent),
     Keys(Lent),
     Values(Lent),
-    Element(Lent),
+    Element(u64, Lent),
     Save { room: usize, next: usize },
 }
 
@@ -23,7 +22,9 @@ impl Call {
     fn next(self) -> usize {
         match self {
             Call::Receive(block) => block.next,
-            Call::Edit(l) | Call::Keys(l) | Call::Values(l) | Call::Element(l) => l.block.next,
+            Call::Edit(_, l) | Call::Keys(l) | Call::Values(l) | Call::Element(_, l) => l
+                .block
+                .next,
             Call::Save { room: _, next } => next,
         }
     }
@@ -32,19 +33,10 @@ impl Call {
     fn room(self) -> usize {
         match self {
             Call::Receive(_) => 0,
-            Call::Edit(l) | Call::Keys(l) | Call::Values(l) | Call::Element(l) => l.room,
+            Call::Edit(_, l) | Call::Keys(l) | Call::Values(l) | Call::Element(_, l) => l.room,
             Call::Save { room, next: _ } => room,
         }
     }
-}
-
-fn find_save(text: &[u8], a: usize) -> Option<Call> {
-    let (room, end) = number(text, a, b"save ", LONGEST_BUFFER as u64)?;
-    let next = take_byte(text, end, b'\n')?;
-    Some(Call::Save {
-        room: room as usize,
-        next,
-    })
 }
 
 // The call at a place of the script.
@@ -58,13 +50,17 @@ pub fn find(text: &[u8], a: usize) -> Option<Call> {
     if let Some(l) = lent_of(text, a, b"values ") {
         return Some(Call::Values(l));
     }
-    if let Some(l) = lent_with_number(text, a, b"edit ") {
-        return Some(Call::Edit(l));
+    if let Some((device, l)) = lent_with_number(text, a, b"edit ") {
+        return Some(Call::Edit(device, l));
     }
-    if let Some(l) = lent_with_number(text, a, b"element ") {
-        return Some(Call::Element(l));
+    if let Some((index, l)) = lent_with_number(text, a, b"element ") {
+        return Some(Call::Element(index, l));
     }
-    find_save(text, a)
+    let (room, next) = save_of(text, a, LONGEST_BUFFER as u64)?;
+    Some(Call::Save {
+        room: room as usize,
+        next,
+    })
 }
 
 // Finds the calls from a place on, as many as have room.
@@ -89,14 +85,14 @@ fn make_call(text: &[u8], call: Call, m: &mut Memory, buf: &mut [u8]) -> usize {
             let _ = terminal::receive(m, block.bytes(text));
             0
         }
-        Call::Edit(l) => match edit::edit(m, l.other, l.block.bytes(text), buf) {
+        Call::Edit(device, l) => match edit::edit(m, device, l.block.bytes(text), buf) {
             Ok(made) => made.written,
             Err(_) => 0,
         },
         Call::Keys(l) => reads::keys(&m.document, l.block.bytes(text), buf).unwrap_or(0),
         Call::Values(l) => reads::values(&m.document, l.block.bytes(text), buf).unwrap_or(0),
-        Call::Element(l) => {
-            reads::element(&m.document, l.block.bytes(text), l.other, buf).unwrap_or(0)
+        Call::Element(index, l) => {
+            reads::element(&m.document, l.block.bytes(text), index, buf).unwrap_or(0)
         }
         Call::Save { .. } => {
             let d = &m.document;

@@ -8,15 +8,11 @@ mod calls;
 
 use calls::{Call, MOST, find, find_all, make_all};
 use keeping::{Document, Memory};
-use readers::take_byte;
-use replay_text::LONGEST_BUFFER;
-use script::number;
+use replay_text::{LONGEST_BUFFER, save_of, say_number};
 use tables::{Counts, Tables};
 
-// Where the script is read and where the answer is written.
+// Where the script is read.
 const STDIN_FILENO: i32 = 0;
-
-const STDOUT_FILENO: i32 = 1;
 
 // How many places, marks, values and waiting messages there are, and how many bytes the last call wrote that wrote any.
 #[derive(Clone, Copy)]
@@ -24,11 +20,6 @@ struct Played {
     counts: Counts,
     waiting: usize,
     written: usize,
-}
-
-fn say_number(n: usize, behind: &[u8]) {
-    io::print_decimal(STDOUT_FILENO, n as u64);
-    io::write_all(STDOUT_FILENO, behind);
 }
 
 // Receives the messages up to the first call that is another one, and says where it stands.
@@ -44,7 +35,7 @@ fn build(text: &[u8], m: &mut Memory) -> usize {
     at
 }
 
-// A copy of a terminal.
+// A copy of a terminal, field by field: a derived `clone` answers a Result, and `Copy` would let 49 KB be copied unseen.
 fn copy_of(m: &Memory) -> Memory {
     let d = &m.document;
     let tables = Tables {
@@ -84,10 +75,7 @@ fn play(text: &[u8]) -> Played {
         waiting: m.count,
         written: 0,
     };
-    let Some((count, end)) = number(text, at, b"save ", u64::MAX) else {
-        return last;
-    };
-    let Some(next) = take_byte(text, end, b'\n') else {
+    let Some((count, next)) = save_of(text, at, u64::MAX) else {
         return last;
     };
     let mut calls = [None; MOST];
@@ -103,9 +91,9 @@ fn main() {
     let mut text = [0u8; 131072];
     let n = io::read_full(STDIN_FILENO, &mut text);
     let r = play(&text[..n]);
-    say_number(r.counts.rows, b" ");
-    say_number(r.counts.marks, b" ");
-    say_number(r.counts.values, b" ");
-    say_number(r.waiting, b" ");
-    say_number(r.written, b"\n");
+    say_number(r.counts.rows as u64, b" ");
+    say_number(r.counts.marks as u64, b" ");
+    say_number(r.counts.values as u64, b" ");
+    say_number(r.waiting as u64, b" ");
+    say_number(r.written as u64, b"\n");
 }

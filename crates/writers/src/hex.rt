@@ -48,6 +48,7 @@ impl<const W: usize> Text for Hex<W> {
         2 * (self.len as usize)
     }
 
+    // by places: of what an adapter of `iter_mut` or `chunks_mut` writes no clause tells
     fn put(&self, buf: &mut [u8]) -> usize {
         let n = self.len as usize;
         for i in 0..n {

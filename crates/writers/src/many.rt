@@ -6,7 +6,8 @@ ghost use Rattle.writers.specs.Texts.{texts};
 
 use crate::{Text, then};
 
-// Where a text is taken from, and how it goes on from there.
+// Where a text is taken from, and how it goes on from there. No Iterator: the texts are gone over twice, for the size and for the
+// writing, and the clauses have to tell each place's text without going on.
 pub trait Pieces: Copy {
     type Piece: Text + Copy;
 

@@ -2,7 +2,8 @@
 use mathlib.Core.Path.{sym, ap, ◌∙◌}
 use Rattle.std.specs.Result.{result_ok}
 use Rattle.std.proofs.lemmas.Result.{err_from_is_err_and}
-use Rattle.finder.proofs.Follows.{follows_missing, follows_unmarked, follows_standing, follows_on, told, none_left, some_left}
+use Rattle.tables.proofs.Absent.{told}
+use Rattle.finder.proofs.Follows.{follows_missing, follows_unmarked, follows_standing, follows_on, none_left, some_left}
 use Rattle.finder.proofs.+follow_under.Goals as goal
 
 pub returns-in_err-at : goal.returns-in_err-at

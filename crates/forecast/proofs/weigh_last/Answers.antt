@@ -18,5 +18,5 @@ returns-in-Insert c =
 
 pub returns : goal.returns
 returns c =
-    rw (c.carry.ensures, c.is_some.ensures, c.covered-2.ensures, c.deletes.ensures)
+    rw (c.carry.ensures, c.is_some.ensures, c.covered-2.ensures, c.is_delete.ensures)
     (target_weighed _ _ _ _ _ _ _ _ _ _ _ _ c.in_default.not-Insert c.look-at.ensures c.weigh_place-u.ensures)

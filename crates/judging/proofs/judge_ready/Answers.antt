@@ -4,8 +4,9 @@ use Rattle.std.specs.Prelude.{Some}
 use Rattle.std.specs.Result.{result_ok}
 use Rattle.std.proofs.lemmas.Result.{err_from_is_err_and}
 use Rattle.tables.specs.Either.{no}
+use Rattle.tables.proofs.Absent.{told}
 use Rattle.judging.specs.Judging.{Small}
-use Rattle.judging.proofs.Verdicts.{judge_eight, judge_nine, judge_large, judge_ten, judge_taken, told}
+use Rattle.judging.proofs.Verdicts.{judge_eight, judge_nine, judge_large, judge_ten, judge_taken}
 use Rattle.judging.proofs.judge_ready.Goals.{then-not-is_small-via-then-not-is_small, then-not-is_small-via-else-not-is_small+then-not-has_room}
 use Rattle.judging.proofs.judge_ready.Goals as goal
 

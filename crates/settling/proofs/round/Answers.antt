@@ -8,10 +8,11 @@ returns-in_default c = rounds_over _ _ _ c.sweep-able.ensures c.in_default.is
 pub returns-in_default-op_at : goal.returns-in_default-op_at
 returns-in_default-op_at c = rounds_none _ _ _ c.sweep-able.ensures _ c.in-Some.is c.in_default-op_at.ensures
 
-pub returns-then-left-m : goal.returns-then-left-m
-returns-then-left-m c =
-    rounds_cut _ _ _ c.sweep-able.ensures _ c.in-Some.is _ _ c.take_out-left.ensures c.if-left-m.true
+pub returns-in_default-take_out : goal.returns-in_default-take_out
+returns-in_default-take_out c =
+    rounds_cut _ _ _ c.sweep-able.ensures _ c.in-Some.is _ _ c.take_out.ensures c.in_default-take_out.is
 
 pub returns : goal.returns
 returns c =
-    rounds_on _ _ _ c.sweep-able.ensures _ c.in-Some.is _ _ c.take_out-left.ensures _ c.in-Some-op_at.ensures _ c.take.ensures c.if-left-m.false
+    rounds_on _ _ _ c.sweep-able.ensures _ c.in-Some.is _ _ c.take_out.ensures _ c.in-Some-op_at.ensures _ c.take.ensures _
+    c.in-Some-take_out.is

@@ -3,7 +3,7 @@ use native.Mathlib.Omega.{arith}
 use mathlib.Core.Path.{refl, sym, ap, ◌∙◌}
 use mathlib.Core.Bool.{not}
 use Rattle.settling.proofs.Looking.{looks_early}
-use Rattle.settling.proofs.Sweeping.{begins, ends, drops, one_less, looked, passes, notes, passes_idle}
+use Rattle.settling.proofs.Sweeping.{begins, ends, gone-one, drops, looked, passes, notes, passes_idle}
 use Rattle.settling.proofs.sweep.Goals.{then-is_none+then-is_taken, else-is_none}
 use Rattle.settling.proofs.sweep.Goals.{else-is_none-via-then-is_none+else-is_taken, else-is_none-via-else-is_none}
 use Rattle.settling.proofs.sweep.Goals as goal
@@ -16,18 +16,14 @@ loop-i-preserved-then-early c = (
       passes_idle _ X _ _ _ (looks_early _ _ _ c.early.ensures c.if-early.true) (c.loop-i.invariant.2 X K) c.loop-i-test.true refl refl,
 )
 
-pub returns-then-left-n : goal.returns-then-left-n
-returns-then-left-n c =
-    record {
+pub returns-in_err-m : goal.returns-in_err-m
+returns-in_err-m c =
+    rw c.from_residual-in_err-m.ensures (record {
       fewer = c.loop-i.invariant.0;
       document = c.loop-i.invariant.1;
       sweeps = λ X K.
-          absurd (omega (
-            arith,
-            c.if-left-n.true,
-            one_less _ X _ _ _ c.in_ok-j.ensures (c.loop-i.invariant.2 X K) c.loop-i-test.true _ _ c.take_out-left.ensures,
-          ));
-    }
+          absurd (gone-one _ X _ _ _ c.in_ok-j.ensures (c.loop-i.invariant.2 X K) c.loop-i-test.true _ _ c.take_out.ensures c.in_err-m.was);
+    })
 
 pub returns-in_err-j : goal.returns-in_err-j
 returns-in_err-j c =
@@ -39,10 +35,10 @@ returns-in_err-j c =
 
 pub loop-i-preserved-then-is_dead : goal.loop-i-preserved-then-is_dead
 loop-i-preserved-then-is_dead c = (
-  omega (arith, c.loop-i.invariant.0, c.if-left-n.false),
+  omega (arith, c.loop-i.invariant.0, c.take_out.ensures.fewer _ c.in_ok-m.was),
   c.loop-i.invariant.1,
   λ X K.
-      drops _ X _ _ _ c.in_ok-j.ensures (c.loop-i.invariant.2 X K) c.loop-i-test.true _ _ c.take_out-left.ensures
+      drops _ X _ _ _ c.in_ok-j.ensures (c.loop-i.invariant.2 X K) c.loop-i-test.true _ _ c.take_out.ensures _ c.in_ok-m.was
       (sym c.is_dead.ensures ∙ c.if-is_dead.true),
 )
 

@@ -4,5 +4,5 @@ use Rattle.forecast.proofs.loss.gone.Goals as goal
 
 pub returns : goal.returns
 returns c =
-    block_gone _ _ _ _ _ _ _ _ _ _ c.gone_row-own.ensures c.next_row-next.ensures
-    c.depth_at-n.ensures c.gone_under-under.ensures
+    rw c.plus.ensures
+    (block_gone _ _ _ _ _ _ _ _ _ _ c.gone_row-own.ensures c.next_row-next.ensures c.depth_at-n.ensures c.gone_under-under.ensures)

@@ -12,8 +12,8 @@ returns-then-head-n c =
 
 pub loop-at-preserved : goal.loop-at-preserved
 loop-at-preserved c =
-    going_on _ _ _ _ _ _ _ _ _ c.loop-at.invariant _ c.head_in-head.ensures c.loop-at-test.true c.if-head-n.false _
-    c.gone_row-g.ensures
+    rw c.plus-sum.ensures
+    (going_on _ _ _ _ _ _ _ _ _ c.loop-at.invariant _ c.head_in-head.ensures c.loop-at-test.true c.if-head-n.false _ c.gone_row-g.ensures)
 
 pub returns : goal.returns
 returns c = going_end _ _ _ _ _ _ _ _ _ c.loop-at.invariant c.loop-at-test.false
