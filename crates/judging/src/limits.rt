@@ -6,7 +6,7 @@ ghost use Rattle.judging.specs.Judging.{Small, has_room, goes_down};
 use forecast::Weight;
 use message::Deed;
 use readers::ELEMENT;
-use tables::{Counts, MARKS_ROOM, ROWS_ROOM, VALUES_ROOM};
+use tables::{Counts, MARKS_ROOM, VALUES_ROOM, within};
 
 // Document 01, answer 10: a document has at most so many places, marks and values.
 const PLACES: usize = 256;
@@ -19,12 +19,11 @@ const VALUES: usize = 256;
 const WAY_WORDS: usize = 24;
 
 // Whether the numbers are such as memory that holds a document comes to.
+#[tactic(auto, unfolding(tables::specs::Holding::within_tables))]
 pub fn is_small(c: Counts, w: Weight) -> bool
     ensures { holds_if result (Small c w) }
 {
-    c.rows <= ROWS_ROOM
-        && c.marks <= MARKS_ROOM
-        && c.values <= VALUES_ROOM
+    within(c)
         && w.places <= WAY_WORDS
         && w.marks <= WAY_WORDS
         && w.values <= 1

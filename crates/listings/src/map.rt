@@ -48,7 +48,7 @@ fn key_of(h: Head, keys: &[u64], depth: u64, row: usize) -> Option<Row<Hex<2>>>
     }))
 }
 
-// How many rows the map has, from one on, and how many bytes their keys take.
+// How many rows the map has, from one on, and how many bytes their keys take. By number, since a row is told by two tables.
 pub fn extent(t: &Tables, rows: usize, from: usize, depth: u64) -> Extent
     requires { (from ≤ rows) × (rows ≤ heads_room) }
     ensures { Extends t.now.heads t.now.keys rows from depth result }

@@ -13,7 +13,8 @@ const ROOT: Way = Way {
     n: 0,
 };
 
-// A way that was read, the third word of its last key, and the place behind it.
+// A way that was read, the third word of its last key (`ELEMENT`, `CARET`, or a map key's length: a word of the tables, as in `Key`), and
+// the place behind it.
 #[derive(Clone, Copy)]
 pub struct WayRead {
     pub way: Way,

@@ -59,7 +59,7 @@ pub fn say(text: &[u8]) {
     io::write_all(STDOUT_FILENO, text);
 }
 
-// A number and the bytes behind it.
+// A number and the bytes behind it. No Display: the kit's `io` prints without heap, and goes by a file's number.
 pub fn say_number(n: u64, behind: &[u8]) {
     io::print_decimal(STDOUT_FILENO, n);
     say(behind);

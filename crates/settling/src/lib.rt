@@ -37,10 +37,7 @@ fn is_hopeless(r: Refusal) -> bool
 fn is_dead(j: Judgement) -> bool
     ensures { result ≡ deadly j }
 {
-    match j {
-        Ok(_) => false,
-        Err(r) => is_hopeless(r),
-    }
+    matches!(j, Err(r) if is_hopeless(r))
 }
 
 // The verdict on the operation that waits at i, if one is there.

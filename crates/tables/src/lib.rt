@@ -23,6 +23,7 @@ pub const MARKS: usize = 1032;
 
 pub const VALUES: usize = 1542;
 
+// Rows, marks and values, where the four above are words: a row's head and a mark are a word each.
 pub const ROWS_ROOM: usize = 264;
 
 pub const MARKS_ROOM: usize = 1032;

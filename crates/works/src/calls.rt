@@ -75,7 +75,7 @@ pub fn find_all(text: &[u8], a: usize, calls: &mut [Option<Call>; MOST]) {
     }
 }
 
-// Makes a call, and answers how many bytes it wrote.
+// Makes a call, and answers how many bytes it wrote: 0 bytes where it was refused, too.
 fn make_call(text: &[u8], call: Call, m: &mut Memory, buf: &mut [u8]) -> usize {
     let Some(buf) = buf.get_mut(..call.room()) else {
         return 0;

@@ -22,7 +22,8 @@ struct Played {
     written: usize,
 }
 
-// Receives the messages up to the first call that is another one, and says where it stands.
+// Receives the messages up to the first call that is another one, and says where it stands. Only a call tells where the next one stands, so
+// the turns are as many as there are bytes.
 fn build(text: &[u8], m: &mut Memory) -> usize {
     let mut at: usize = 0;
     for _ in 0..text.len() {

@@ -7,7 +7,8 @@ ghost use Rattle.writers.specs.Words.{byte_of, bytes_of};
 
 use crate::Text;
 
-// The first `len` of the bytes that the words hold.
+// The first `len` of the bytes that the words hold. What `readers` take is a `Packed` of theirs: reading and writing don't stand on each
+// other.
 #[derive(Clone, Copy)]
 pub struct Hex<const W: usize> {
     pub words: [u64; W],

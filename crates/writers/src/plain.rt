@@ -36,7 +36,8 @@ fn kind_of(kind: u64, n: u64) -> Kind
     }
 }
 
-// A plain value, by the number of its kind and its four words, as a table has them.
+// A plain value, by the number of its kind and its four words, as a table has them. No part of `tables::Value`, and nothing of `tables`:
+// `writers` and `tables` don't stand on each other, which keeps the longest chain of crates short.
 #[derive(Clone, Copy)]
 pub struct Plain {
     pub kind: u64,
