@@ -5,7 +5,7 @@ use mathlib.Core.Path.{refl, sym, subst}
 use mathlib.Core.List.{List, [], ◌∷◌, ◌++◌, append_assoc}
 use mathlib.Core.Path.{◌≡◌}
 use Rattle.std.specs.Prelude.{Result, Ok, Err}
-use Rattle.std.specs.Result.{MatchResult, IsErrAnd}
+use Rattle.std.specs.Result.{result_or}
 use Rattle.meaning.specs.declared.ReadError.{ReadError}
 use Rattle.finder.specs.Follows.{Followed}
 use Rattle.meaning.specs.Places.{Place}
@@ -25,18 +25,25 @@ use Rattle.finder.specs.Follows.{StandsHere}
 use Rattle.finder.specs.declared.Absence.{Absence}
 use Rattle.finder.specs.declared.Absence.TheVariants as F
 use Rattle.listings.specs.Lists.{Answers, Under, Owns, Lists, ListsKeys, ListsValues, ListsElement}
+use Rattle.message.specs.declared.Way.{Way}
+use Rattle.reads.specs.Gives.{Reaches, LeadsTo, somewhere, nowhere}
 use Rattle.reads.specs.Gives.{Gives, HeldRows, HeldValues, GivesKeys, GivesValues, GivesElement}
 
--- where the way led, by what is made of it for the answer
-pub led_to : (P : Absence → ReadError → Type 0) (f : Followed) {r : Result Position ReadError} (at : Position)
-    → MatchResult f (λ x. r ≡ Ok x) (λ a. IsErrAnd r (P a)) → r ≡ Ok at → f ≡ Ok at
-led_to P (Ok x) at m e = cc
-led_to P (Err a) at m e = absurd (subst (λ r. IsErrAnd r (P a)) e m)
+module _ {h k : List ℕ} {rows : ℕ} {way : Way} where
+  -- where the way led, by what is answered
+  pub led : {r : Result Position ReadError} (at : Position) → LeadsTo h k rows way r → r ≡ Ok at → Reaches h k rows way (Ok at)
+  led at (somewhere x R) e = let s : x ≡ at = cc in subst (λ z. Reaches h k rows way (Ok z)) s R
+  led at (nowhere a R) e = cc
 
-pub led_nowhere : (P : Absence → ReadError → Type 0) (f : Followed) {r : Result Position ReadError} (y : ReadError)
-    → MatchResult f (λ x. r ≡ Ok x) (λ a. IsErrAnd r (P a)) → r ≡ Err y → (a : Absence) × (f ≡ Err a)
-led_nowhere P (Ok x) y m e = cc
-led_nowhere P (Err a) y m e = (a, refl)
+  pub lost : {r : Result Position ReadError} (y : ReadError) → LeadsTo h k rows way r → r ≡ Err y
+      → (a : Absence) × Reaches h k rows way (Err a) × (y ≡ NotThere)
+  lost y (somewhere x R) e = cc
+  lost y (nowhere a R) e = (a, R, cc)
+
+  -- what was followed, by either absence
+  pub leads : (f : Followed) → Reaches h k rows way f → LeadsTo h k rows way (result_or f (Err NotThere))
+  leads (Ok x) R = somewhere x R
+  leads (Err a) R = nowhere a R
 
 -- nothing is there
 pub gives_absent : (Held : List Row → Type 0) (n : ℕ) (find : Place → Finding) (before : List ℕ) (a : Absence)

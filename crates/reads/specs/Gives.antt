@@ -1,18 +1,22 @@
 -- A read in its two steps: the way is followed to a place, and what is read of that place is given. Each promise says: if the tables hold
 -- rows, the answer is that of the rows.
 -- Assumes nothing: these are definitions.
-use Rattle.std.specs.Prelude.{ℕ, ◌≡◌, List}
+use Rattle.std.specs.Prelude.{ℕ, ◌≡◌, List, Result, Ok, Err}
 use Rattle.meaning.specs.Places.{Place, children_of, elements_of, values_of, Document}
 use Rattle.meaning.specs.Members.{All}
 use Rattle.meaning.specs.Read.{PlaceWay, ValidPlaceWay, Sought, seek, Finding, listed, keys_text, values_text}
 use Rattle.meaning.specs.Read.{present_ids, nth_text, at_place}
 use Rattle.meaning.specs.Sheet.{Row, rows_of}
 use Rattle.meaning.specs.Answers.{Refusal, Reading, reading_answer}
+use Rattle.meaning.specs.declared.ReadError.{ReadError}
+use Rattle.meaning.specs.declared.ReadError.TheVariants.{NotThere}
 use Rattle.message.specs.Means.{MeansPlace}
 use Rattle.message.specs.declared.Way.{Way}
 use Rattle.tables.specs.Holding.{Holds, four}
 use Rattle.tables.specs.Once.{ValidValues}
 use Rattle.tables.specs.declared.Counts.{Counts}
+use Rattle.tables.specs.declared.Position.{Position}
+use Rattle.finder.specs.declared.Absence.{Absence}
 use Rattle.finder.specs.Follows.{Followed, Leads}
 use Rattle.listings.specs.Lists.{Answers}
 
@@ -21,6 +25,11 @@ abbrev pub Reaches : List ℕ → List ℕ → ℕ → Way → Followed → Type
 Reaches h k rows way r =
     (m v : List ℕ) (c : Counts) (D : Document) (w : PlaceWay) → Holds (four h k m v) c (rows_of D) → rows ≡ c.rows
     → MeansPlace way w → ValidPlaceWay w → Leads (rows_of D) way.n r (seek w D)
+
+-- the same, where 14 stands for either absence
+pub data LeadsTo (h k : List ℕ) (rows : ℕ) (way : Way) : Result Position ReadError → Type 0 where
+  somewhere : (at : Position) → Reaches h k rows way (Ok at) → LeadsTo h k rows way (Ok at)
+  nowhere : (a : Absence) → Reaches h k rows way (Err a) → LeadsTo h k rows way (Err NotThere)
 
 -- what `find` says of the place that was found, of depth n, is given into the buffer; 14 if there is none
 pub record Gives (Held : List Row → Type 0) (n : ℕ) (find : Place → Finding) (found : Followed) (before : List ℕ) (answer : Reading)

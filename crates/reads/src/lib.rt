@@ -5,22 +5,22 @@
 #![tactic(auto)]
 
 ghost use Rattle.reads.specs.Asks.{KeysAsked, ValuesAsked, ElementAsked};
-ghost use Rattle.reads.specs.Gives.{Reaches};
+ghost use Rattle.reads.specs.Gives.{LeadsTo};
 
-use finder::{Absence, follow};
+use finder::follow;
 use keeping::Document;
 use meaning::{ReadError, Reading};
 use message::{Way, take_element_way, take_keys_way, take_place_way};
 use tables::{DEEPEST, Position, next_row, within};
 
-// Follows the way of a place.
-fn place_at(d: &Document, way: &Way) -> Result<Position, Absence>
-    ensures { Reaches d.now.tables.heads d.now.tables.keys d.now.counts.rows way.now result }
+// Follows the way of a place. 14 for what is missing, and for what has no marks.
+fn place_at(d: &Document, way: &Way) -> Result<Position, ReadError>
+    ensures { LeadsTo d.now.tables.heads d.now.tables.keys d.now.counts.rows way.now result }
 {
     if way.n as u64 > DEEPEST {
-        return Err(Absence::Missing);
+        return Err(ReadError::NotThere);
     }
-    follow(&d.tables, d.counts.rows, &way.keys[..3 * way.n])
+    follow(&d.tables, d.counts.rows, &way.keys[..3 * way.n]).or(Err(ReadError::NotThere))
 }
 
 // The keys of a way entered as a map, or of the root.
@@ -34,7 +34,7 @@ pub fn keys(d: &Document, way: &[u8], buf: &mut [u8]) -> Reading
     if led.n == 0 {
         return listings::keys(buf, &d.tables, d.counts.rows, 0, 0);
     }
-    let at = place_at(d, &led).map_err(|_| ReadError::NotThere)?;
+    let at = place_at(d, &led)?;
     let next = next_row(&d.tables.heads, at);
     listings::keys(buf, &d.tables, d.counts.rows, next.row, led.n as u64)
 }
@@ -47,7 +47,7 @@ pub fn values(d: &Document, way: &[u8], buf: &mut [u8]) -> Reading
         return Err(ReadError::NotThere);
     }
     let led = take_place_way(way).ok_or(ReadError::Layout)?;
-    let at = place_at(d, &led).map_err(|_| ReadError::NotThere)?;
+    let at = place_at(d, &led)?;
     listings::values(buf, &d.tables.heads, &d.tables.values, at)
 }
 
@@ -59,7 +59,7 @@ pub fn element(d: &Document, way: &[u8], index: u64, buf: &mut [u8]) -> Reading
         return Err(ReadError::NotThere);
     }
     let led = take_element_way(way).ok_or(ReadError::Layout)?;
-    let at = place_at(d, &led).map_err(|_| ReadError::NotThere)?;
+    let at = place_at(d, &led)?;
     let next = next_row(&d.tables.heads, at);
     listings::element(buf, &d.tables, d.counts.rows, next.row, led.n as u64, index)
 }

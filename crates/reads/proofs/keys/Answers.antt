@@ -1,11 +1,8 @@
 -- `reads::keys` meets its contract: 14, the root's keys, those of the place where the way leads. Assumes nothing.
-use mathlib.Core.Path.{◌≡◌, sym, subst, ◌∙◌}
+use mathlib.Core.Path.{sym, ◌∙◌}
 use Rattle.std.proofs.lemmas.Result.{err_from_is_err_and}
 use Rattle.std.specs.Prelude.{Ok, Err}
-use Rattle.meaning.specs.declared.ReadError.TheVariants.{NotThere}
-use Rattle.std.proofs.Common.{rules}
-use Rattle.reads.specs.Gives.{Reaches}
-use Rattle.reads.proofs.Gives.{gives_absent, gives_keys, led_to, led_nowhere}
+use Rattle.reads.proofs.Gives.{gives_absent, gives_keys, led, lost}
 use Rattle.reads.proofs.Asks.{too_many, keys-room, keys-asked, root_asked}
 use Rattle.reads.proofs.keys.Goals as goal
 
@@ -20,14 +17,13 @@ returns-then-led-eq0 c =
 pub returns-in_err-at : goal.returns-in_err-at
 returns-in_err-at c =
     let e = err_from_is_err_and c.from_residual-in_err-at.result c.from_residual-in_err-at.ensures.1 in
-    let t : c.in_err-at.field-0.0 ≡ NotThere = search rules in
-    let a = led_nowhere _ _ _ c.map_err.ensures.cases c.in_err-at.was in
-    rw (e.1, e.2 ∙ t)
-    (keys-asked c.args.d.now _ _ _ _ (sym c.if-not-within.ensures) _ c.in_ok-led.ensures.ok_part (Err a.0)
-    (subst (Reaches _ _ _ _) a.1 c.place_at.ensures) c.take_keys_way.ensures c.if-led-eq0.false (gives_absent _ _ _ _ _))
+    let a = lost _ c.place_at.ensures c.in_err-at.was in
+    rw (e.1, e.2 ∙ a.2)
+    (keys-asked c.args.d.now _ _ _ _ (sym c.if-not-within.ensures) _ c.in_ok-led.ensures.ok_part (Err a.0) a.1
+    c.take_keys_way.ensures c.if-led-eq0.false (gives_absent _ _ _ _ _))
 
 pub returns : goal.returns
 returns c =
     keys-asked c.args.d.now _ _ _ _ (sym c.if-not-within.ensures) _ c.in_ok-led.ensures.ok_part (Ok c.in_ok-at.at)
-    (subst (Reaches _ _ _ _) (led_to _ _ _ c.map_err.ensures.cases c.in_ok-at.was) c.place_at.ensures)
+    (led _ c.place_at.ensures c.in_ok-at.was)
     c.take_keys_way.ensures c.if-led-eq0.false (gives_keys _ _ _ _ _ c.next_row-next.ensures _ _ _ _ c.keys-2.ensures)
