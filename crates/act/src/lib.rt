@@ -2,6 +2,7 @@
 // safe on any memory, and lent only the tables that it changes (docs/DECISIONS.md, 40).
 #![tactic(auto)]
 
+ghost use Rattle.tables.specs.Holding.{four};
 ghost use Rattle.deeds.specs.Deeds.{given_in};
 ghost use Rattle.act.specs.Acting.{Gives, Finishes, Inserts};
 
@@ -10,7 +11,7 @@ use message::Act;
 use readers::{ELEMENT, Key};
 use seats::find_seat;
 use steps::WithGap;
-use tables::{Counts, Position, Side, Tables, Value};
+use tables::{Counts, Position, Side, Value};
 
 // Assigns at a row: a plain value takes the place of those that deps cover; an empty map or list clears the place. The mark is the first of
 // n that are to be put in.
@@ -67,10 +68,21 @@ pub fn finish(
 }
 
 // Puts a new element in, if its predecessor is there, and assigns its value.
-pub fn put_element(t: &mut Tables, c: Counts, from: Position, n: u64, prev: Key, o: Act) -> WithGap
-    ensures { Inserts o n prev.hi prev.len from c t.old result.counts result.gap t.new }
+pub fn put_element(
+    heads: &mut [u64],
+    keys: &mut [u64],
+    marks: &mut [u64],
+    values: &mut [u64],
+    c: Counts,
+    from: Position,
+    n: u64,
+    prev: Key,
+    o: Act,
+) -> WithGap
+    ensures { Inserts o n prev.hi prev.len from c (four heads.old keys.old marks.old values.old)
+        result.counts result.gap (four heads.new keys.new marks.new values.new) }
 {
-    let Some(at) = find_seat(t, c.rows, from, n, prev, o.id) else {
+    let Some(at) = find_seat(heads, keys, c.rows, from, n, prev, o.id) else {
         return WithGap {
             counts: c,
             gap: c.marks,
@@ -81,14 +93,6 @@ pub fn put_element(t: &mut Tables, c: Counts, from: Position, n: u64, prev: Key,
         lo: 0,
         len: ELEMENT,
     };
-    let e = steps::open_row(&mut t.heads, &mut t.keys, c, at.row, n, Side::List, new);
-    give(
-        &mut t.heads,
-        &mut t.marks,
-        &mut t.values,
-        e,
-        at,
-        o,
-        n as usize,
-    )
+    let e = steps::open_row(heads, keys, c, at.row, n, Side::List, new);
+    give(heads, marks, values, e, at, o, n as usize)
 }

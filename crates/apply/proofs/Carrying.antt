@@ -5,7 +5,7 @@ use native.Mathlib.Omega.{arith}
 use mathlib.Core.Path.{◌≡◌, refl, sym, ap, ap₂, ◌∙◌, subst}
 use mathlib.Core.Bool.{Bool, true, false, cond, true≢false, false≢true}
 use mathlib.Core.List.{List, ◌++◌}
-use lib.ListN.{take}
+use lib.ListN.{length, take}
 use Rattle.std.specs.Prelude.{Ok, Err}
 use borrow.Author.Tests.{le-leb}
 use Rattle.meaning.specs.Ids.{counter_of, raise}
@@ -44,7 +44,7 @@ use Rattle.judging.specs.declared.Refusal.TheVariants as F
 use Rattle.judging.specs.declared.Readiness.TheVariants as B
 use Rattle.judging.specs.declared.Unfit.TheVariants as Y
 use Rattle.judging.proofs.Tops.{rows_top}
-use Rattle.judging.proofs.Verdicts.{whole, steps-whole, deed_whole, way_part}
+use Rattle.judging.proofs.Verdicts.{whole, steps-whole, deed_whole, way_part, cut_short}
 use Rattle.judging.proofs.Judged.{newer, here_stores}
 use Rattle.apply.specs.Applying.{CarriesOut, TakesAt, TakesOn, Applies}
 use Rattle.keeping.specs.declared.Document as K
@@ -52,6 +52,10 @@ use Rattle.keeping.specs.declared.Document as K
 module _ (T : Tables) (c : Counts) (s : Position) (op : Operation) where
   pub carry_long : 8 < op.way.n → CarriesOut T c s op c T
   carry_long l D o S m val y t = absurd (omega (arith, l, (steps-whole op o m val).0, (steps-whole op o m val).1))
+
+  -- no operation means a way with more keys than there are words for
+  pub carry_cut : length op.way.keys < 3 * op.way.n → CarriesOut T c s op c T
+  carry_cut l D o S m val y t = absurd (cut_short op o m val l)
 
 module _ (T U : Tables) (c e : Counts) (s : Position) (op : Operation) where
   same_rows : (o : M.Operation) (rs : List Row) → Means op o

@@ -1,20 +1,25 @@
 -- What carrying out and applying promise of memory that holds a document. On a refusal not one word has changed.
 -- Assumes nothing: these are definitions.
-use Rattle.std.specs.Prelude.{◌≡◌, true, false, Ok}
+use Rattle.std.specs.Prelude.{ℕ, ◌≡◌, true, false, List, Ok}
 use Rattle.meaning.specs.Places.{Document}
 use Rattle.meaning.specs.Apply.{apply}
 use Rattle.meaning.specs.Valid.{ValidOperation}
 use Rattle.meaning.specs.Ways as M
 use Rattle.meaning.specs.Sheet.{rows_of}
+use Rattle.meaning.specs.declared.Counters.{Counters}
 use Rattle.message.specs.Means.{Means}
 use Rattle.message.specs.declared.Operation.{Operation}
 use Rattle.tables.specs.declared.Tables.{Tables}
-use Rattle.tables.specs.Holding.{Holds}
+use Rattle.tables.specs.Holding.{Holds, four}
 use Rattle.tables.specs.declared.Counts.{Counts}
 use Rattle.tables.specs.declared.Position.{Position}
 use Rattle.keeping.specs.Storing.{Stores, StoresIn}
 use Rattle.keeping.specs.declared.Document as K
 use Rattle.judging.specs.Judging.{Judgement, is_taken, ready_verdict, verdict, Newer, top_position}
+
+-- a document of the words of its four tables, its counts and its counters
+abbrev pub held : List ℕ → List ℕ → List ℕ → List ℕ → Counts → Counters → K.Document
+held h k m v c seen = record { tables = four h k m v; counts = c; seen = seen }
 
 -- with the stop s, from which the way is looked for
 abbrev pub CarriesOut : Tables → Counts → Position → Operation → Counts → Tables → Type 0

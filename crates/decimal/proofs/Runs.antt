@@ -99,6 +99,28 @@ module _ (max : ℕ) (s : List ℕ) (a : ℕ) (r : List ℕ) (n v : ℕ) (k : Ru
         p (ap width j ∙ sym g);
   }
 
+-- From min on.
+
+-- where no number up to max stands, none from min to max does
+pub none_between : (min max : ℕ) (s : List ℕ) (a : ℕ) → Never (numbers 0 max) s a → Never (numbers min max) s a
+none_between min max s a r = record { not = λ y t ok st e. r.not y t (omega arith, ok.1) st e }
+
+module _ (min max : ℕ) (s : List ℕ) (a v n : ℕ) (r : Took (numbers 0 max) s a v n) where
+  -- nor does one where the number that stands there is below min
+  pub too_small : v < min → Never (numbers min max) s a
+  too_small z = record { not = λ y t ok st e. omega (arith, ok.0, (r.only y t (omega arith, ok.1) st e).0) }
+
+  -- where it is at least min, it is the one that stands there
+  pub between : min ≤ v → Took (numbers min max) s a v n
+  between z =
+      record {
+        valid = (z, r.valid.1);
+        text = r.text;
+        rest = r.rest;
+        within = r.within;
+        only = λ y t ok st e. r.only y t (omega arith, ok.1) st e;
+      }
+
 -- Writing.
 
 -- the digits from i on are written in the buffer, which was b; x is what stands in front of them

@@ -64,6 +64,10 @@ Leads w make c from T U x =
     → Agrees w pass → Tells w meant → (make ≡ true → Making w p c)
     → Lands T U c w.depth (changing w.depth pass meant make p B) A B x
 
+-- the same of heads and keys alone, whatever marks and values stand beside them
+abbrev pub LeadsIn : Search → Bool → Counts → Position → List ℕ → List ℕ → List ℕ → List ℕ → Option (Position × Counts) → Type 0
+LeadsIn w make c from h k h' k' x = (m v : List ℕ) → Leads w make c from (four h k m v) (four h' k' m v) x
+
 -- the branch that a key is of, by its third word, and the branch that a way goes into
 abbrev pub side_by : ℕ → Side
 side_by len = cond (ltb 16 len) S.List S.Map

@@ -1,19 +1,21 @@
 // Document 01, "What an operation does": an operation carried out on the tables, in place. The way is followed from the root down; what its
 // end says is done first, and each place on the way is marked on the way back, so that no step moves what a later one looks for. At the end
 // of the way a gap of as many words as there are marks to put in stands in the marks; it travels to the front, and no mark is moved twice.
+// Each function is lent the tables that it touches, as slices of any length (docs/DECISIONS.md, 40).
 #![tactic(auto)]
 
 ghost use Rattle.std.specs.Prelude.{◌≡◌};
 ghost use Rattle.tables.specs.Wants.{search_of};
+ghost use Rattle.tables.specs.Holding.{four};
 ghost use Rattle.deeds.specs.Deeds.{may_make};
-ghost use Rattle.descend.specs.Doing.{side_by, Leads, Enters, Descends};
+ghost use Rattle.descend.specs.Doing.{side_by, LeadsIn, Enters, Descends};
 
 use act::{finish, put_element};
 use deeds::{inserts_here, is_delete, may_make};
 use message::{Act, Deed};
 use readers::{Key, LONGEST};
 use steps::WithGap;
-use tables::{Counts, DEEPEST, Position, Search, Side, Tables, next_row, search_of};
+use tables::{Counts, DEEPEST, Position, Search, Side, next_row, search_of};
 
 // The branch that a key is of, by its third word.
 fn side_by(len: u64) -> Side
@@ -22,39 +24,33 @@ fn side_by(len: u64) -> Side
     if len > LONGEST { Side::List } else { Side::Map }
 }
 
-// The place of the row that is looked for, made if it isn't there and may be (the clause `Leads` names that by a truth value), and the
+// The place of the row that is looked for, made if it isn't there and may be (the clause `LeadsIn` names that by a truth value), and the
 // counts with it.
 fn lead(
-    t: &mut Tables,
+    heads: &mut [u64],
+    keys: &mut [u64],
     c: Counts,
     from: Position,
     w: Search,
     make: bool,
 ) -> Option<(Position, Counts)>
-    ensures { Leads w make c from t.old t.new result }
+    ensures { LeadsIn w make c from heads.old keys.old heads.new keys.new result }
 {
-    let at = tables::find(t, c.rows, from, w);
-    if tables::is_at(t, c.rows, at.row, w) {
+    let at = tables::find(heads, keys, c.rows, from, w);
+    if tables::is_at(heads, keys, c.rows, at.row, w) {
         return Some((at, c));
     }
     if !make {
         return None;
     }
-    let counts = steps::open_row(
-        &mut t.heads,
-        &mut t.keys,
-        c,
-        at.row,
-        w.depth,
-        Side::Map,
-        w.key,
-    );
+    let counts = steps::open_row(heads, keys, c, at.row, w.depth, Side::Map, w.key);
     Some((at, counts))
 }
 
 // The row of a key of the way, among rows of depth n; `left` words of the way are left behind the key.
 fn reach(
-    t: &mut Tables,
+    heads: &mut [u64],
+    keys: &mut [u64],
     c: Counts,
     from: Position,
     n: u64,
@@ -62,11 +58,12 @@ fn reach(
     left: usize,
     deed: Deed,
 ) -> Option<(Position, Counts)>
-    ensures { Leads (search_of n key) (may_make key.len left deed) c from t.old t.new result }
+    ensures { LeadsIn (search_of n key) (may_make key.len left deed) c from heads.old keys.old
+        heads.new keys.new result }
 {
     let w = search_of(n, key);
     let make = may_make(key.len, left, deed);
-    lead(t, c, from, w, make)
+    lead(heads, keys, c, from, w, make)
 }
 
 // A place of depth n that the way goes on from: it is marked, unless the operation deletes, and its branch has its flag.
@@ -95,10 +92,20 @@ fn enter(
 
 // Follows the way among the rows behind a place, whose children have depth n: to the row of its first key, and from there along the
 // remaining keys. Unless the operation deletes, the n - 1 marks of the places above are left to be put in: the gap for them stands.
-pub fn descend(t: &mut Tables, c: Counts, from: Position, n: u64, o: Act, way: &[u64]) -> WithGap
+pub fn descend(
+    heads: &mut [u64],
+    keys: &mut [u64],
+    marks: &mut [u64],
+    values: &mut [u64],
+    c: Counts,
+    from: Position,
+    n: u64,
+    o: Act,
+    way: &[u64],
+) -> WithGap
     ensures { Descends o n way.now from c
-        t.old result.counts result.gap
-        t.new }
+        (four heads.old keys.old marks.old values.old) result.counts result.gap
+        (four heads.new keys.new marks.new values.new) }
 {
     let left = way.len();
     let gap = c.marks;
@@ -111,36 +118,19 @@ pub fn descend(t: &mut Tables, c: Counts, from: Position, n: u64, o: Act, way: &
         len: way[2],
     };
     if inserts_here(left, o.deed) {
-        return put_element(t, c, from, n, key, o);
+        return put_element(heads, keys, marks, values, c, from, n, key, o);
     }
-    let Some((at, counts)) = reach(t, c, from, n, key, left - 3, o.deed) else {
+    let Some((at, counts)) = reach(heads, keys, c, from, n, key, left - 3, o.deed) else {
         return WithGap { counts: c, gap };
     };
     if left == 3 {
-        return finish(
-            &mut t.heads,
-            &mut t.marks,
-            &mut t.values,
-            counts,
-            at,
-            o,
-            n as usize,
-        );
+        return finish(heads, marks, values, counts, at, o, n as usize);
     }
     if left < 6 {
         return WithGap { counts, gap };
     }
     let side = side_by(way[5]);
-    let p = next_row(&t.heads, at);
-    let e = descend(t, counts, p, n + 1, o, &way[3..]);
-    enter(
-        &mut t.heads,
-        &mut t.marks,
-        e.counts,
-        at,
-        o,
-        side,
-        e.gap,
-        n as usize,
-    )
+    let p = next_row(heads, at);
+    let e = descend(heads, keys, marks, values, counts, p, n + 1, o, &way[3..]);
+    enter(heads, marks, e.counts, at, o, side, e.gap, n as usize)
 }

@@ -4,9 +4,10 @@
 #![tactic(auto)]
 
 ghost use Rattle.std.specs.Prelude.{◌≤◌, ◌<◌, length};
+ghost use Rattle.apply.specs.Applying.{TakesAt};
 ghost use Rattle.edit.specs.Promises.{Forms, Finishes, Carries, Editing};
 
-use keeping::Memory;
+use keeping::{Document, Memory};
 use lines::message_head;
 use meaning::{Counters, EditError, Edited, Made};
 use message::{Act, Edit, Operation};
@@ -29,6 +30,23 @@ fn operation_of(seen: Counters, largest: u64, device: u64, e: Edit) -> Operation
     Operation { act, way }
 }
 
+// Takes an operation that was judged, on a document in memory, from where the search for its first key stops.
+fn take_in(d: &mut Document, top: Position, op: Operation)
+    ensures { TakesAt d.old top op d.new }
+{
+    let t = &mut d.tables;
+    apply::take_at(
+        &mut t.heads,
+        &mut t.keys,
+        &mut t.marks,
+        &mut t.values,
+        &mut d.counts,
+        &mut d.seen,
+        top,
+        op,
+    );
+}
+
 // An edit that may be applied, unless its message is too long for the buffer: it is applied from where the search for its first key
 // stopped, its message is written, and the waiting ones are settled. The message is its head and the edit's lines, which are the caller's
 // own bytes.
@@ -41,9 +59,9 @@ fn finish(m: &mut Memory, top: Position, op: Operation, lines: &[u8], buf: &mut 
     if buf.len() < needed {
         return Err(EditError::ShortBuffer { needed });
     }
-    apply::take_at(&mut m.document, top, op);
+    take_in(&mut m.document, top, op);
     let written = message.put(buf);
-    let settled = settling::settle(m);
+    let settled = settling::settle_in(m);
     Ok(Made {
         applied: settled.applied + 1,
         dropped: settled.dropped,
@@ -56,8 +74,10 @@ fn carry(m: &mut Memory, op: Operation, lines: &[u8], buf: &mut [u8]) -> Edited
     requires { length lines.now ≤ 463 }
     ensures { Carries m.old buf.old op lines.now result m.new buf.new }
 {
-    let top = judging::top_of(&m.document, op);
-    judging::judge_ready(&m.document, top, op)?;
+    let d = &m.document;
+    let t = &d.tables;
+    let top = judging::top_of(&t.heads, &t.keys, d.counts.rows, op);
+    judging::judge_ready(&t.heads, &t.keys, &t.marks, &t.values, d.counts, top, op)?;
     finish(m, top, op, lines, buf)
 }
 
@@ -66,7 +86,7 @@ fn carry(m: &mut Memory, op: Operation, lines: &[u8], buf: &mut [u8]) -> Edited
 pub fn edit(m: &mut Memory, device: u64, lines: &[u8], buf: &mut [u8]) -> Edited
     ensures { Editing m.old buf.old device lines.now result m.new buf.new }
 {
-    if !keeping::within(m) {
+    if !keeping::within(m.document.counts, m.count) {
         return Err(EditError::NoRoom);
     }
     if device == 0 || device > TERMINALS {

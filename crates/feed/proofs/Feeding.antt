@@ -21,7 +21,7 @@ takes_on none r = r
 takes_on (receives a h r) q = receives a h (takes_on r q)
 takes_on (passes r) q = passes (takes_on r q)
 
-feeds_none : (M : Memory) (b : List ℕ) (c : Cut) (last : Bool) → CutInside b c → Feeds M b c last M c
+pub feeds_none : (M : Memory) (b : List ℕ) (c : Cut) (last : Bool) → CutInside b c → Feeds M b c last M c
 feeds_none M b c last h = record {
   holds = h;
   same = refl;
@@ -30,7 +30,7 @@ feeds_none M b c last h = record {
   takes = λ X K. record { exit = X; takes = none; keeps = K };
 }
 
-feeds_on : {M N P : Memory} {b : List ℕ} {c d e : Cut} {last : Bool} → Feeds M b c last N d → Feeds N b d last P e → Feeds M b c last P e
+pub feeds_on : {M N P : Memory} {b : List ℕ} {c d e : Cut} {last : Bool} → Feeds M b c last N d → Feeds N b d last P e → Feeds M b c last P e
 feeds_on f g = record {
   holds = g.holds;
   same = g.same ∙ f.same;
@@ -57,7 +57,7 @@ going_none M b c last h = record { feeds = feeds_none M b c last h; on = λ ps e
 
 module _ {M N : Memory} {b : List ℕ} {c d : Cut} {last : Bool} (g : Going M b c last N d) where
   -- one step more
-  going_on : {P : Memory} {next : Cut} (f : Feeds N b d last P next)
+  pub going_on : {P : Memory} {next : Cut} (f : Feeds N b d last P next)
       → ((ps : List Piece) (end : Cut) → Cuts b last next ps end → Cuts b last d (f.handed ++ ps) end) → Going M b c last P next
   unfolding feeds_on
   going_on f goes = record {

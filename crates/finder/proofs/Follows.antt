@@ -1,6 +1,6 @@
 -- Following a way in tables that hold rows: one key, and what comes behind it.
 -- Assumes nothing.
-use Prim.Native.Nat.{ℕ, suc, ◌+◌, ◌-◌, ◌≤◌}
+use Prim.Native.Nat.{ℕ, suc, ◌+◌, ◌-◌, ◌≤◌, ◌<◌}
 use native.Mathlib.Omega.{arith}
 use native.Mathlib.Numerals.{add-one}
 use mathlib.Core.Path.{◌≡◌, refl, sym, ap, ◌∙◌, subst}
@@ -82,6 +82,14 @@ sees_steps rs n s p unknown l q (standing at F r R e a b z y) = absurd (true≢f
 sees_steps rs n s p (found x) l q (standing at F r R e a b z y) = one at F x e refl b (found_stands rs F n p x r R a (sym q ∙ y))
 
 module _ (h k : List ℕ) (rows : ℕ) (from : Position) (n : ℕ) (words : List ℕ) where
+  -- no way has so few words
+  pub follows_short : length words < 3 → FollowsUnder h k rows from n words (Err F.Missing)
+  follows_short l rs x p t U = absurd (omega (arith, long_way_lem p t words U.way))
+
+  -- no way leads so deep
+  pub follows_deep : 8 < n → FollowsUnder h k rows from n words (Err F.Missing)
+  follows_deep l rs x p t U = absurd (omega (arith, U.few))
+
   module _ (s : Option Position) (look : Looks h k rows (Some from) n (key_in words) s) where
     step : (rs : List Row) (x : Place) (p : Spot) (t : Trail) → OnWay h k rows from n words rs x p t → Steps rs n s p (place_at p x)
     step rs x p t U =

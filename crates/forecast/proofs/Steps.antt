@@ -14,7 +14,7 @@ use Rattle.meaning.specs.Valid.{ValidWay}
 use Rattle.meaning.specs.Ways.{Prev, head, after, Way, assign, delete, insert, into_map, into_list, steps, makes}
 use Rattle.meaning.specs.Sheet.{Spot, in_map, in_list, Row}
 use Rattle.rows.specs.Blocks.{passed, rest, deeper}
-use Rattle.rows.specs.Locate.{Located, nowhere, here, under_of, is_located, elements_found_rows}
+use Rattle.rows.specs.Locate.{Located, nowhere, here, under_of, elements_found_rows}
 use Rattle.rows.specs.Balanced.{passed-rest}
 use Rattle.rows.specs.Within.{under_change, GoesOn, shallow_rest, change-within, found_within}
 use Rattle.message.specs.Means.{way_words, prev_words, deed_of}
@@ -29,13 +29,12 @@ use Rattle.tables.specs.Stands.{passes}
 use Rattle.tables.specs.declared.Counts.{Counts}
 use Rattle.tables.specs.declared.Position.{Position}
 use Rattle.message.specs.declared.Deed.{Deed}
-use Rattle.std.specs.Prelude.{Option, None, Some, is_some}
+use Rattle.std.specs.Prelude.{Option, None, Some, is_some, Ok}
 use Rattle.std.specs.Option.{MatchOption, IsSomeAnd}
-use Rattle.forecast.specs.declared.Weight.{Weight}
 use Rattle.finder.specs.Looks.{Sees, missing, standing, hanging, HangsBehind, Looks}
-use Rattle.forecast.specs.Weighs.{or_new, Counted, Weighs, Few, nothing_weighed, marked, carried, WayWeighed}
-use Rattle.forecast.proofs.Weights.{carried_few, marked_marks, marked_places, mark-is}
-use Rattle.forecast.proofs.Ways.{into, locate_at, sees_there, carry_into, lost_into}
+use Rattle.forecast.specs.Weighs.{or_new, Forecast, Weighs, nothing_weighed, marked, carried, WayWeighed}
+use Rattle.forecast.proofs.Weights.{carried_places, carried_marks, marked_marks, marked_places, mark-is}
+use Rattle.forecast.proofs.Ways.{into, locate_at, sees_there, carry_into}
 
 -- A way that goes on has a key.
 
@@ -79,28 +78,38 @@ goes_makes delete g = elim g [ ]
 module _ (h k m v : List ℕ) (rows : ℕ) (from : Option Position) (n : ℕ) (d : List ℕ) (deed : Deed) (way : List ℕ) where
   -- it ends here
   pub ends_weighed : ((w : Way) → GoesOn w → way ≡ way_words w → n + steps w ≤ 9 → ⊥)
-      → WayWeighed h k m v rows from n d deed way (Some nothing_weighed)
+      → WayWeighed h k m v rows from n d deed way (Ok nothing_weighed)
   unfolding elements_found_rows under_change
-  ends_weighed never = record { few = (omega arith, omega arith); is = λ c A B w H q f e g ok N. all w (hanging from B) e N }
+  ends_weighed never = record {
+    few_places = omega arith;
+    few_marks = omega arith;
+    is = λ c A B w H q f e g ok N. all w (hanging from B) e N;
+  }
     where
       all : (w : Way) (us : List Row) → way ≡ way_words w → n + steps w ≤ 9
-          → Weighs (elements_found_rows d n w us) (under_change d n w us) (Some nothing_weighed)
+          → Weighs (elements_found_rows d n w us) (under_change d n w us) (Ok nothing_weighed)
       all (assign a) us e N =
-          (refl, record { places = refl; marks = refl; values = refl; gone_marks = refl; gone-values = refl })
+          record {
+            found_is = refl;
+            counted = record { places = refl; marks = refl; values = refl; gone_marks = refl; gone-values = refl };
+          }
       all delete us e N =
-          (refl, record { places = refl; marks = refl; values = refl; gone_marks = refl; gone-values = refl })
+          record {
+            found_is = refl;
+            counted = record { places = refl; marks = refl; values = refl; gone_marks = refl; gone-values = refl };
+          }
       all (insert p a) us e N = absurd (never (insert p a) tt e N)
       all (into_map t w) us e N = absurd (never (into_map t w) tt e N)
       all (into_list i w) us e N = absurd (never (into_list i w) tt e N)
 
-  pub short_weighed : length way < 3 → WayWeighed h k m v rows from n d deed way (Some nothing_weighed)
+  pub short_weighed : length way < 3 → WayWeighed h k m v rows from n d deed way (Ok nothing_weighed)
   short_weighed l = ends_weighed (λ w g e N. omega (arith, three_words w g, ap length e))
 
-  pub deep_weighed : 8 < n → WayWeighed h k m v rows from n d deed way (Some nothing_weighed)
+  pub deep_weighed : 8 < n → WayWeighed h k m v rows from n d deed way (Ok nothing_weighed)
   deep_weighed l = ends_weighed (λ w g e N. omega (arith, one-step w g))
 
   -- its last key
-  pub last_weighed : length way ≡ 3 → (x : Option Weight)
+  pub last_weighed : length way ≡ 3 → (x : Forecast)
       → WayWeighed h k m v rows from n d deed (get_or way 0 0 ∷ get_or way 1 0 ∷ get_or way 2 0 ∷ []) x
       → WayWeighed h k m v rows from n d deed way x
   last_weighed l x W = subst (λ way. WayWeighed h k m v rows from n d deed way x) (go way l) W
@@ -128,7 +137,7 @@ or_new_lem n p nowhere = refl
 or_new_lem n p (here b) = refl
 
 -- what is weighed behind the row that was found is what is weighed under it
-module _ (d : List ℕ) (n : ℕ) (w : Way) (x : Option Weight) where
+module _ (d : List ℕ) (n : ℕ) (w : Way) (x : Forecast) where
   within : (R : List Row) → Weighs (elements_found_rows d (suc n) w R) (under_change d (suc n) w R) x
       → Weighs (elements_found_rows d (suc n) w (passed (deeper n) R)) (under_change d (suc n) w (passed (deeper n) R)) x
   within R W =
@@ -139,7 +148,7 @@ module _ (d : List ℕ) (n : ℕ) (w : Way) (x : Option Weight) where
       let b = ap (under_change d (suc n) w) e ∙ change-within n (rest (deeper n) R) s d w us in
       subst (λ t. Weighs t (under_change d (suc n) w us) x) a (subst (λ c. Weighs (elements_found_rows d (suc n) w R) c x) b W)
 
-module _ (h k m v : List ℕ) (rows : ℕ) (n : ℕ) (d : List ℕ) (deed : Deed) (words : List ℕ) (s next : Option Position) (x : Option Weight)
+module _ (h k m v : List ℕ) (rows : ℕ) (n : ℕ) (d : List ℕ) (deed : Deed) (words : List ℕ) (s next : Option Position) (x : Forecast)
     (past : PassesTo h s next) (under : WayWeighed h k m v rows next (n + 1) d deed words x) where
   below : (c : Counts) (rs : List Row) (w : Way) (l : Located) → Holds (four h k m v) c rs → rows ≡ c.rows → Sees rs n s l
       → words ≡ way_words w → deed ≡ deed_of w → ValidWay w → n + suc (steps w) ≤ 9
@@ -159,57 +168,54 @@ module _ (h k m v : List ℕ) (rows : ℕ) (n : ℕ) (d : List ℕ) (deed : Deed
       let z = subst (λ i. Weighs (elements_found_rows d i w R) (under_change d i w R) x) (add-one n) a in
       subst (λ l. Weighs (elements_found_rows d (suc n) w (under_of l)) (under_change d (suc n) w (under_of l)) x) (sym j) (within d n w x R z)
 
--- what is weighed on the way, by what is weighed under it
-abbrev pub stepped : Option Weight → Bool → Bool → Bool → Deed → Option Weight
-stepped None there list covers deed = None
-stepped (Some u) there list covers deed = carried (marked u deed) there list covers true
-
 module _ (h k m v : List ℕ) (rows : ℕ) (from : Option Position) (n : ℕ) (d : List ℕ) (deed : Deed) (way : List ℕ)
-    (s next : Option Position) where
-  step_weighed : (x : Option Weight) → 3 ≤ length way → (length way ≡ 3 → ⊥)
+    (s next : Option Position) (x : Forecast) where
+  step_weighed : 3 ≤ length way → (length way ≡ 3 → ⊥)
       → Looks h k rows from n (key_in way) s → PassesTo h s next → WayWeighed h k m v rows next (n + 1) d deed (drop 3 way) x
-      → WayWeighed h k m v rows from n d deed way (stepped x (is_some s) (eqb (get_or way 2 0) 17) (covered d (get_or way 0 0)) deed)
+      → WayWeighed h k m v rows from n d deed way
+      (carried (marked x deed) (is_some s) (eqb (get_or way 2 0) 17) (covered d (get_or way 0 0)) true)
   unfolding way_words deed_of steps
-  step_weighed x long more look past under = record {
-    few = few x under.few;
+  step_weighed long more look past under = record {
+    few_places = omega (
+      arith,
+      carried_places U (is_some s) (eqb (get_or way 2 0) 17) (covered d (get_or way 0 0)) true,
+      marked_places x deed,
+      under.few_places,
+      length-drop 3 way,
+    );
+    few_marks = omega (
+      arith,
+      carried_marks U (is_some s) (eqb (get_or way 2 0) 17) (covered d (get_or way 0 0)) true,
+      marked_marks x deed,
+      under.few_marks,
+      length-drop 3 way,
+    );
     is = λ c A B w H q f e g ok N. all c A B w H q f e g ok N;
   }
     where
-      X : Option Weight → Option Weight
-      X x = stepped x (is_some s) (eqb (get_or way 2 0) 17) (covered d (get_or way 0 0)) deed
+      U : Forecast
+      U = marked x deed
 
-      few : (x : Option Weight) → Few (length (drop 3 way)) x → Few (length way) (X x)
-      few None l = tt
-      few (Some u) l =
-          carried_few (marked u deed) (length way) (is_some s) (eqb (get_or way 2 0) 17) (covered d (get_or way 0 0)) true
-          (omega (arith, l.0, long, marked_places u deed, length-drop 3 way)) (omega (arith, l.1, long, marked_marks u deed, length-drop 3 way))
-
-      into_weighed : (p : Spot) (w : Way) (us : List Row) → words_in (key_in way) ≡ spot_words p → GoodSpot p → GoesOn w → deed ≡ deed_of w
-          → is_some s ≡ is_located (locate_at n p us) → (x : Option Weight)
-          → Weighs (elements_found_rows d (suc n) w (under_of (locate_at n p us))) (under_change d (suc n) w (under_of (locate_at n p us))) x
-          → Weighs (elements_found_rows d n (into p w) us) (under_change d n (into p w) us) (X x)
-      into_weighed p w us e good on g t None W = lost_into d n w us p W
-      into_weighed p w us e good on g t (Some u) W =
-          let L = locate_at n p us in
-          let C = subst (λ us. Counted (under_change d (suc n) w us) u) (sym (or_new_lem n p L)) W.1 in
-          carry_into d n w us (marked u deed) (is_some s) true (key_in way) p e good t (goes_makes w on)
-          (W.0, mark-is d n w (or_new n p L) u deed on g C)
+      X : Forecast
+      X = carried U (is_some s) (eqb (get_or way 2 0) 17) (covered d (get_or way 0 0)) true
 
       go : (c : Counts) (A B : List Row) (p : Spot) (w : Way) → Holds (four h k m v) c (A ++ B) → rows ≡ c.rows → HangsBehind from A
           → words_in (key_in way) ≡ spot_words p → drop 3 way ≡ way_words w → deed ≡ deed_of w
           → GoodSpot p → ValidWay w → n + suc (steps w) ≤ 9
-          → Weighs (elements_found_rows d n (into p w) (hanging from B)) (under_change d n (into p w) (hanging from B)) (X x)
+          → Weighs (elements_found_rows d n (into p w) (hanging from B)) (under_change d n (into p w) (hanging from B)) X
       go c A B p w H q f e t g good ok N =
           let us = hanging from B in
           let L = locate_at n p us in
           let S = look m v c A B (pass_of p) (meant_of p) H q f (spot_agrees n (key_in way) p e good) (spot_tells n (key_in way) p e good) in
           let on = goes_on w (λ z. more (omega (arith, long, length-drop 3 way, ap length (t ∙ z)))) in
-          into_weighed p w us e good on g (sees_there (A ++ B) n s L S) x
-          (below h k m v rows n d deed (drop 3 way) s next x past under c (A ++ B) w L H q S t g ok N)
+          let W = below h k m v rows n d deed (drop 3 way) s next x past under c (A ++ B) w L H q S t g ok N in
+          let W' = subst (λ us. Weighs (elements_found_rows d (suc n) w (under_of L)) (under_change d (suc n) w us) x) (sym (or_new_lem n p L)) W in
+          carry_into d n w us U (is_some s) true (key_in way) p e good (sees_there (A ++ B) n s L S) (goes_makes w on)
+          (mark-is d n w (or_new n p L) (elements_found_rows d (suc n) w (under_of L)) x deed on g W')
 
       all : (c : Counts) (A B : List Row) (w : Way) → Holds (four h k m v) c (A ++ B) → rows ≡ c.rows → HangsBehind from A
           → way ≡ way_words w → deed ≡ deed_of w → ValidWay w → n + steps w ≤ 9
-          → Weighs (elements_found_rows d n w (hanging from B)) (under_change d n w (hanging from B)) (X x)
+          → Weighs (elements_found_rows d n w (hanging from B)) (under_change d n w (hanging from B)) X
       all c A B (assign a) H q f e g ok N = absurd (omega (arith, long, ap length e))
       all c A B delete H q f e g ok N = absurd (omega (arith, long, ap length e))
       all c A B (insert p a) H q f e g ok N = absurd (more (ap length e ∙ prev_three p))
@@ -219,25 +225,12 @@ module _ (h k m v : List ℕ) (rows : ℕ) (from : Option Position) (n : ℕ) (d
           go c A B (in_list i) w H q f (ap (λ l. get_or l 0 0 ∷ get_or l 1 0 ∷ get_or l 2 0 ∷ []) e) (ap (drop 3) e) g tt ok.1 N
 
   -- the same as the code has it: the rest of the way is a part of it, and each step has its result
-  module _ (x : Option Weight) (long : 3 ≤ length way) (more : length way ≡ 3 → ⊥) (look : Looks h k rows from n (key_in way) s)
-      (past : PassesTo h s next) (under : WayWeighed h k m v rows next (n + 1) d deed (take (length way - 3) (drop 3 way)) x) where
-    whole : WayWeighed h k m v rows from n d deed way (stepped x (is_some s) (eqb (get_or way 2 0) 17) (covered d (get_or way 0 0)) deed)
-    whole =
-        let all = take_all (length way - 3) (drop 3 way) (omega (arith, length-drop 3 way)) in
-        step_weighed x long more look past (subst (λ l. WayWeighed h k m v rows next (n + 1) d deed l x) all under)
-
-    pub part_lost : (y : Option Weight) → x ≡ None → y ≡ None → WayWeighed h k m v rows from n d deed way y
-    part_lost y a e =
-        rw e (subst (λ x. WayWeighed h k m v rows from n d deed way (stepped x (is_some s) (eqb (get_or way 2 0) 17)
-        (covered d (get_or way 0 0)) deed)) a whole)
-
-    pub part_weighed : (u z : Weight) (there covers : Bool) (y : Option Weight) → x ≡ Some u → z ≡ marked u deed → there ≡ is_some s
-        → covers ≡ covered d (get_or way 0 0) → y ≡ carried z there (eqb (get_or way 2 0) 17) covers true
-        → WayWeighed h k m v rows from n d deed way y
-    part_weighed u z there covers y a f b g e =
-        rw (e, f, b, g) (subst (λ x. WayWeighed h k m v rows from n d deed way (stepped x (is_some s) (eqb (get_or way 2 0) 17)
-        (covered d (get_or way 0 0)) deed)) a whole)
-
--- few places come
-pub few_places : (n : ℕ) (x : Option Weight) (u : Weight) → x ≡ Some u → Few n x → u.places ≤ n
-few_places n x u e l = (subst (Few n) e l).0
+  pub part_weighed : (z y : Forecast) (there covers : Bool) → 3 ≤ length way → (length way ≡ 3 → ⊥)
+      → Looks h k rows from n (key_in way) s → PassesTo h s next
+      → WayWeighed h k m v rows next (n + 1) d deed (take (length way - 3) (drop 3 way)) x
+      → z ≡ marked x deed → there ≡ is_some s → covers ≡ covered d (get_or way 0 0)
+      → y ≡ carried z there (eqb (get_or way 2 0) 17) covers true
+      → WayWeighed h k m v rows from n d deed way y
+  part_weighed z y there covers long more look past under f b g e =
+      let all = take_all (length way - 3) (drop 3 way) (omega (arith, length-drop 3 way)) in
+      rw (e, f, b, g) (step_weighed long more look past (subst (λ l. WayWeighed h k m v rows next (n + 1) d deed l x) all under))

@@ -1,6 +1,6 @@
 -- Ways weighed from a place on: their last key, and one key more.
 -- Assumes nothing.
-use Prim.Native.Nat.{ℕ, suc}
+use Prim.Native.Nat.{ℕ, suc, ◌≤◌}
 use native.Mathlib.Omega.{arith}
 use mathlib.Core.Path.{◌≡◌, refl, sym, ap, ◌∙◌, subst}
 use mathlib.Core.Bool.{Bool, true, false, cond, not, ◌&&◌, true≢false, false≢true}
@@ -27,14 +27,15 @@ use Rattle.message.specs.declared.Deed.{Deed}
 use Rattle.message.specs.declared.Deed.TheVariants as D
 use Rattle.readers.specs.declared.Given.{Given}
 use Rattle.readers.specs.Given.{given_of}
-use Rattle.std.specs.Prelude.{Option, None, Some, is_some}
+use Rattle.std.specs.Prelude.{Option, None, Some, is_some, Ok, Err}
 use Rattle.std.specs.Bool.{then_some}
+use Rattle.std.specs.Option.{ok_or}
 use Rattle.forecast.specs.declared.Weight.{Weight}
 use Rattle.finder.specs.Looks.{Sees, missing, standing, hanging, HangsBehind, Looks}
 use Rattle.deeds.specs.Deeds.{is_delete}
-use Rattle.forecast.specs.Weighs.{or_new, plain_given, Counted, Weighs, Few, element_weighed, carried}
-use Rattle.forecast.specs.Weighs.{PlaceWeighed, WayWeighed}
-use Rattle.forecast.proofs.Weights.{is_plain, given_plain, Ends, ends, and_false, map_carry, list_carry, list_lost, carried_few}
+use Rattle.forecast.specs.Weighs.{or_new, plain_given, Forecast, Counted, weight_of, Weighs, nothing_weighed}
+use Rattle.forecast.specs.Weighs.{element_weighed, carried, PlaceWeighed, WayWeighed}
+use Rattle.forecast.proofs.Weights.{is_plain, given_plain, Ends, ends, and_false, map_carry, list_carry, carried_places, carried_marks}
 use Rattle.readers.specs.Hex.{words_in}
 use Rattle.readers.specs.declared.Key.{Key}
 
@@ -59,9 +60,9 @@ firstly : (p : Spot) (y : Key) → words_in y ≡ spot_words p → y.hi ≡ get_
 firstly p y e = ap (λ l. get_or l 0 0) e
 
 module _ (d : List ℕ) (n : ℕ) (w : Way) (rs : List Row) where
-  pub carry_into : (u : Weight) (there new : Bool) (y : Key) (p : Spot) → words_in y ≡ spot_words p → GoodSpot p
+  pub carry_into : (u : Forecast) (there new : Bool) (y : Key) (p : Spot) → words_in y ≡ spot_words p → GoodSpot p
       → there ≡ is_located (locate_at n p rs) → new ≡ makes w
-      → Weighs (elements_found_rows d (suc n) w (under_of (locate_at n p rs))) (run_change d n w (or_new n p (locate_at n p rs))) (Some u)
+      → Weighs (elements_found_rows d (suc n) w (under_of (locate_at n p rs))) (run_change d n w (or_new n p (locate_at n p rs))) u
       → Weighs (elements_found_rows d n (into p w) rs) (under_change d n (into p w) rs) (carried u there (eqb y.len 17) (covered d y.hi) new)
   unfolding elements_found_rows under_change locate_key locate_element
   carry_into u there new y (in_map k) e g t m W =
@@ -73,12 +74,6 @@ module _ (d : List ℕ) (n : ℕ) (w : Way) (rs : List Row) where
       let h : y.hi ≡ i = firstly (in_list i) y e in
       let L = locate_at n (in_list i) rs in
       rw (f, t, h) (list_carry d n (in_list i) w u L i new W)
-
-  pub lost_into : (p : Spot) → elements_found_rows d (suc n) w (under_of (locate_at n p rs)) ≡ false
-      → elements_found_rows d n (into p w) rs ≡ false
-  unfolding elements_found_rows locate_key locate_element
-  lost_into (in_map k) e = e
-  lost_into (in_list i) e = list_lost d n w (locate_at n (in_list i) rs) i e
 
 -- The last key.
 
@@ -119,10 +114,10 @@ element_is a deed e = rw e (go a (plain_given (given_of a)) (given_plain a))
     go empty_list false e = record { places = refl; marks = refl; values = refl; gone_marks = refl; gone-values = refl }
     go empty_list true e = absurd (true≢false e)
 
-element_few : (deed : Deed) → Few 3 (Some (element_weighed deed))
-element_few (D.Assign g) = (omega arith, omega arith)
-element_few (D.Insert g) = (omega arith, omega arith)
-element_few D.Delete = (omega arith, omega arith)
+element_few : (deed : Deed) → (element_weighed deed).marks ≤ 1
+element_few (D.Assign g) = omega arith
+element_few (D.Insert g) = omega arith
+element_few D.Delete = omega arith
 
 module _ (h k m v : List ℕ) (rows : ℕ) (from : Option Position) (n : ℕ) (d : List ℕ) (deed : Deed) (y : Key) where
   some_words : (words_in y ≡ []) → ⊥
@@ -131,16 +126,16 @@ module _ (h k m v : List ℕ) (rows : ℕ) (from : Option Position) (n : ℕ) (d
   pub target_weighed : (s : Option Position) (u : Weight) → ((g : Given) → deed ≡ D.Insert g → ⊥) → Looks h k rows from n y s
       → PlaceWeighed h m v rows s d deed u
       → WayWeighed h k m v rows from n d deed (words_in y)
-      (carried u (is_some s) (eqb y.len 17) (covered d y.hi) (not (is_delete deed)))
+      (carried (Ok u) (is_some s) (eqb y.len 17) (covered d y.hi) (not (is_delete deed)))
   unfolding way_words deed_of
   target_weighed s u other look place = record {
-    few = carried_few u 3 (is_some s) (eqb y.len 17) (covered d y.hi) (not (is_delete deed)) (omega (arith, place.few_places))
-        (omega (arith, place.few_marks));
+    few_places = omega (arith, carried_places (Ok u) (is_some s) (eqb y.len 17) (covered d y.hi) (not (is_delete deed)), place.few_places);
+    few_marks = omega (arith, carried_marks (Ok u) (is_some s) (eqb y.len 17) (covered d y.hi) (not (is_delete deed)), place.few_marks);
     is = λ c A B w H q f e g ok N. all c A B w H q f e g ok;
   }
     where
-      X : Option Weight
-      X = carried u (is_some s) (eqb y.len 17) (covered d y.hi) (not (is_delete deed))
+      X : Forecast
+      X = carried (Ok u) (is_some s) (eqb y.len 17) (covered d y.hi) (not (is_delete deed))
 
       go : (c : Counts) (A B : List Row) (p : Spot) (w : Way) → Holds (four h k m v) c (A ++ B) → rows ≡ c.rows → HangsBehind from A
           → words_in y ≡ spot_words p → way_words w ≡ [] → deed ≡ deed_of w → GoodSpot p
@@ -150,8 +145,8 @@ module _ (h k m v : List ℕ) (rows : ℕ) (from : Option Position) (n : ℕ) (d
           let L = locate_at n p rs in
           let S = look m v c A B (pass_of p) (meant_of p) H q f (spot_agrees n y p e ok) (spot_tells n y p e ok) in
           let W = place.is k c (A ++ B) n p L w H q S z g in
-          carry_into d n w rs u (is_some s) (not (is_delete deed)) y p e ok (sees_there (A ++ B) n s L S)
-          (ap (λ i. not (is_delete i)) g ∙ ends-makes w (ends w z)) (ends_found d (suc n) w (under_of L) (ends w z), W)
+          carry_into d n w rs (Ok u) (is_some s) (not (is_delete deed)) y p e ok (sees_there (A ++ B) n s L S)
+          (ap (λ i. not (is_delete i)) g ∙ ends-makes w (ends w z)) (record { found_is = sym (ends_found d (suc n) w (under_of L) (ends w z)); counted = W })
 
       all : (c : Counts) (A B : List Row) (w : Way) → Holds (four h k m v) c (A ++ B) → rows ≡ c.rows → HangsBehind from A
           → words_in y ≡ way_words w → deed ≡ deed_of w → ValidWay w
@@ -166,7 +161,7 @@ module _ (h k m v : List ℕ) (rows : ℕ) (from : Option Position) (n : ℕ) (d
 
   module _ (given : Given) (inserts : deed ≡ D.Insert given) where
     -- an insert, by what it comes after
-    insert_weighed : (x : Option Weight) → Few 3 x
+    pub insert_weighed : (x : Forecast) → (weight_of x).places ≤ 1 → (weight_of x).marks ≤ 1
         → ((a : Assigned) → y.len ≡ 18 → deed ≡ D.Insert (given_of a) → Weighs true (new_change a) x)
         → ((c : Counts) (A B : List Row) (a : Assigned) (e : ℕ) → Holds (four h k m v) c (A ++ B) → rows ≡ c.rows → HangsBehind from A
         → words_in y ≡ spot_words (in_list e) → deed ≡ D.Insert (given_of a)
@@ -174,7 +169,11 @@ module _ (h k m v : List ℕ) (rows : ℕ) (from : Option Position) (n : ℕ) (d
         (cond (is_located (locate_at n (in_list e) (hanging from B))) (new_change a) no_change) x)
         → WayWeighed h k m v rows from n d deed (words_in y) x
     unfolding way_words prev_words deed_of elements_found_rows under_change locate_element
-    insert_weighed x few first other = record { few = few; is = λ c A B w H q f e g ok N. all c A B w H q f e g }
+    insert_weighed x fp fm first other = record {
+      few_places = omega arith;
+      few_marks = omega arith;
+      is = λ c A B w H q f e g ok N. all c A B w H q f e g;
+    }
       where
         all : (c : Counts) (A B : List Row) (w : Way) → Holds (four h k m v) c (A ++ B) → rows ≡ c.rows → HangsBehind from A
             → words_in y ≡ way_words w → deed ≡ deed_of w
@@ -186,9 +185,10 @@ module _ (h k m v : List ℕ) (rows : ℕ) (from : Option Position) (n : ℕ) (d
         all c A B (into_map t w) H q f e g = absurd (ends_other w given (ends w (sym (ap (drop 3) e))) (sym inserts ∙ g))
         all c A B (into_list i w) H q f e g = absurd (ends_other w given (ends w (sym (ap (drop 3) e))) (sym inserts ∙ g))
 
-    pub insert_first : y.len ≡ 18 → WayWeighed h k m v rows from n d deed (words_in y) (Some (element_weighed deed))
+    pub insert_first : y.len ≡ 18 → WayWeighed h k m v rows from n d deed (words_in y) (Ok (element_weighed deed))
     insert_first l =
-        insert_weighed (Some (element_weighed deed)) (element_few deed) (λ a q g. (refl, element_is a deed g))
+        insert_weighed (Ok (element_weighed deed)) (omega arith) (element_few deed)
+        (λ a q g. record { found_is = refl; counted = element_is a deed g })
         (λ c A B a e H q f z g. absurd (omega (arith, third (in_list e) y z)))
 
     module _ (s : Option Position) (l : y.len ≡ 18 → ⊥) (look : Looks h k rows from n y s) where
@@ -198,26 +198,36 @@ module _ (h k m v : List ℕ) (rows : ℕ) (from : Option Position) (n : ℕ) (d
           sees_there (A ++ B) n s _ (look m v c A B (pass_of (in_list e)) (meant_of (in_list e)) H q f (spot_agrees n y (in_list e) z tt)
           (spot_tells n y (in_list e) z tt))
 
-      -- it is there
-      pub insert_there : (at : Position) → s ≡ Some at
-          → WayWeighed h k m v rows from n d deed (words_in y) (then_some (covered d y.hi) (element_weighed deed))
+      -- it is there; it may not be covered
+      abbrev there : Bool → Forecast
+      there b = ok_or (then_some b (element_weighed deed)) (element_weighed deed)
+
+      pub insert_there : (at : Position) → s ≡ Some at → WayWeighed h k m v rows from n d deed (words_in y) (there (covered d y.hi))
       insert_there at t =
-          insert_weighed _ (few (covered d y.hi)) (λ a q g. absurd (l q)) (λ c A B a e H q f z g.
-          subst (λ b. Weighs (covered d e && b) (cond b (new_change a) no_change) (then_some (covered d y.hi) (element_weighed deed)))
+          insert_weighed _ (places (covered d y.hi)) (marks (covered d y.hi)) (λ a q g. absurd (l q)) (λ c A B a e H q f z g.
+          subst (λ b. Weighs (covered d e && b) (cond b (new_change a) no_change) (there (covered d y.hi)))
           (sym (ap is_some t) ∙ seen c A B e H q f z)
-          (subst (λ i. Weighs (covered d e && true) (new_change a) (then_some (covered d i) (element_weighed deed)))
+          (subst (λ i. Weighs (covered d e && true) (new_change a) (there (covered d i)))
           (sym (firstly (in_list e) y z)) (go (covered d e) a g)))
         where
-          few : (b : Bool) → Few 3 (then_some b (element_weighed deed))
-          few true = element_few deed
-          few false = tt
+          places : (b : Bool) → (weight_of (there b)).places ≤ 1
+          places true = omega arith
+          places false = omega arith
 
-          go : (b : Bool) (a : Assigned) → deed ≡ D.Insert (given_of a)
-              → Weighs (b && true) (new_change a) (then_some b (element_weighed deed))
-          go true a g = (refl, element_is a deed g)
-          go false a g = refl
+          marks : (b : Bool) → (weight_of (there b)).marks ≤ 1
+          marks true = element_few deed
+          marks false = element_few deed
 
-      pub insert_missing : s ≡ None → WayWeighed h k m v rows from n d deed (words_in y) None
+          go : (b : Bool) (a : Assigned) → deed ≡ D.Insert (given_of a) → Weighs (b && true) (new_change a) (there b)
+          go true a g = record { found_is = refl; counted = element_is a deed g }
+          go false a g = record { found_is = refl; counted = element_is a deed g }
+
+      pub insert_missing : s ≡ None → WayWeighed h k m v rows from n d deed (words_in y) (Err nothing_weighed)
       insert_missing t =
-          insert_weighed None tt (λ a q g. absurd (l q)) (λ c A B a e H q f z g.
-          ap (covered d e &&◌) (sym (seen c A B e H q f z) ∙ ap is_some t) ∙ and_false (covered d e))
+          insert_weighed (Err nothing_weighed) (omega arith) (omega arith) (λ a q g. absurd (l q)) (λ c A B a e H q f z g.
+          subst (λ b. Weighs (covered d e && b) (cond b (new_change a) no_change) (Err nothing_weighed))
+          (sym (ap is_some t) ∙ seen c A B e H q f z)
+          (record {
+            found_is = sym (and_false (covered d e));
+            counted = record { places = refl; marks = refl; values = refl; gone_marks = refl; gone-values = refl };
+          }))

@@ -5,7 +5,7 @@ use native.Mathlib.Omega.{arith}
 use mathlib.Core.Path.{◌≡◌, refl, sym, ap, ◌∙◌, subst}
 use mathlib.Core.Bool.{Bool, true, false, cond, ◌&&◌, true≢false, false≢true}
 use lib.IntN.{pos, negsuc}
-use Rattle.std.specs.Prelude.{Option, None, Some}
+use Rattle.std.specs.Prelude.{Option, Ok, Err}
 use Rattle.meaning.specs.Places.{null, bool, integer, string}
 use mathlib.Core.List.{List, []}
 use lib.ListN.{length}
@@ -25,8 +25,8 @@ use Rattle.message.specs.declared.Deed.TheVariants as D
 use Rattle.readers.specs.Given.{given_of}
 use Rattle.forecast.specs.declared.Weight.{Weight}
 use Rattle.deeds.specs.Deeds.{is_delete}
-use Rattle.forecast.specs.Weighs.{or_new, GoesAt, SightGone, plain_given, gives_plain, Counted, Weighs, Few}
-use Rattle.forecast.specs.Weighs.{nothing_weighed, put_weighed, marked, placed, carried, PlaceWeighed}
+use Rattle.forecast.specs.Weighs.{or_new, GoesAt, SightGone, plain_given, gives_plain, Forecast, Counted, weight_of, Weighs}
+use Rattle.forecast.specs.Weighs.{nothing_weighed, put_weighed, with_mark, marked, unled, placed, carried, PlaceWeighed}
 
 -- A way that ends here.
 
@@ -120,68 +120,83 @@ pub and_false : (b : Bool) → b && false ≡ false
 and_false true = refl
 and_false false = refl
 
-module _ (d : List ℕ) (n : ℕ) (p : Spot) (w : Way) (u : Weight) where
-  pub map_carry : (l : Located) (covers : Bool)
-      → Weighs (elements_found_rows d (suc n) w (under_of l)) (run_change d n w (or_new n p l)) (Some u)
+module _ (d : List ℕ) (n : ℕ) (p : Spot) (w : Way) where
+  placed_is : (u : Weight) → Counted (run_change d n w (new_block n p)) u → (new : Bool)
+      → Counted (cond new (both (adds 1 0 0) (run_change d n w (new_block n p))) no_change) (cond new (placed u) nothing_weighed)
+  placed_is u C true = record {
+    places = omega (arith, C.places);
+    marks = omega (arith, C.marks);
+    values = omega (arith, C.values);
+    gone_marks = omega (arith, C.gone_marks);
+    gone-values = omega (arith, C.gone-values);
+  }
+  placed_is u C false = record { places = refl; marks = refl; values = refl; gone_marks = refl; gone-values = refl }
+
+  pub map_carry : (u : Forecast) (l : Located) (covers : Bool)
+      → Weighs (elements_found_rows d (suc n) w (under_of l)) (run_change d n w (or_new n p l)) u
       → Weighs (elements_found_rows d (suc n) w (under_of l)) (found_change (run_change d n w) (makes w) n p l)
       (carried u (is_located l) false covers (makes w))
   unfolding carried
-  map_carry (here b) covers W = W
-  map_carry nowhere covers W = (W.0, go (makes w))
-    where
-      go : (new : Bool)
-          → Counted (cond new (both (adds 1 0 0) (run_change d n w (new_block n p))) no_change) (cond new (placed u) nothing_weighed)
-      go true =
-          let C = W.1 in
-          record {
-            places = omega (arith, C.places);
-            marks = omega (arith, C.marks);
-            values = omega (arith, C.values);
-            gone_marks = omega (arith, C.gone_marks);
-            gone-values = omega (arith, C.gone-values);
-          }
-      go false = record { places = refl; marks = refl; values = refl; gone_marks = refl; gone-values = refl }
+  map_carry u (here b) covers W = W
+  map_carry (Ok u) nowhere covers W = record { found_is = W.found_is; counted = placed_is u W.counted (makes w) }
+  map_carry (Err u) nowhere covers W = record { found_is = W.found_is; counted = placed_is u W.counted (makes w) }
 
-  pub list_carry : (l : Located) (e : ℕ) (new : Bool)
-      → Weighs (elements_found_rows d (suc n) w (under_of l)) (run_change d n w (or_new n p l)) (Some u)
+  pub list_carry : (u : Forecast) (l : Located) (e : ℕ) (new : Bool)
+      → Weighs (elements_found_rows d (suc n) w (under_of l)) (run_change d n w (or_new n p l)) u
       → Weighs (covered d e && elim l [ nowhere ↦ false | here b ↦ elements_found_rows d (suc n) w b.under ])
       (found_change (run_change d n w) false n p l) (carried u (is_located l) true (covered d e) new)
   unfolding carried
-  list_carry (here b) e new W = go (covered d e)
+  list_carry u (here b) e new W = go (covered d e)
     where
-      go : (t : Bool) → Weighs (t && elements_found_rows d (suc n) w b.under) (run_change d n w b) (cond t (Some u) None)
+      go : (t : Bool) → Weighs (t && elements_found_rows d (suc n) w b.under) (run_change d n w b) (cond t u (unled u))
       go true = W
-      go false = refl
-  list_carry nowhere e new W = and_false (covered d e)
-
--- an element farther on isn't there
-pub list_lost : (d : List ℕ) (n : ℕ) (w : Way) (l : Located) (e : ℕ) → elements_found_rows d (suc n) w (under_of l) ≡ false
-    → covered d e && elim l [ nowhere ↦ false | here b ↦ elements_found_rows d (suc n) w b.under ] ≡ false
-list_lost d n w nowhere e f = and_false (covered d e)
-list_lost d n w (here b) e f = ap (λ t. covered d e && t) f ∙ and_false (covered d e)
+      go false = record { found_is = refl; counted = W.counted }
+  list_carry u nowhere e new W = record {
+    found_is = sym (and_false (covered d e));
+    counted = record { places = refl; marks = refl; values = refl; gone_marks = refl; gone-values = refl };
+  }
 
 -- few
-pub carried_few : (u : Weight) (n : ℕ) (there list covers new : Bool) → u.places + 1 ≤ n → u.marks ≤ n
-    → Few n (carried u there list covers new)
+pub carried_places : (u : Forecast) (there list covers new : Bool)
+    → (weight_of (carried u there list covers new)).places ≤ (weight_of u).places + 1
 unfolding carried
-carried_few u n true true true new p m = (omega arith, omega arith)
-carried_few u n true true false new p m = tt
-carried_few u n true false covers new p m = (omega arith, omega arith)
-carried_few u n false true covers new p m = tt
-carried_few u n false false covers true p m = (omega arith, omega arith)
-carried_few u n false false covers false p m = (omega arith, omega arith)
+carried_places u true true true new = omega arith
+carried_places u true true false new = omega arith
+carried_places u true false covers new = omega arith
+carried_places u false true covers new = omega arith
+carried_places (Ok u) false false covers true = omega arith
+carried_places (Ok u) false false covers false = omega arith
+carried_places (Err u) false false covers true = omega arith
+carried_places (Err u) false false covers false = omega arith
+
+pub carried_marks : (u : Forecast) (there list covers new : Bool)
+    → (weight_of (carried u there list covers new)).marks ≤ (weight_of u).marks
+unfolding carried
+carried_marks u true true true new = omega arith
+carried_marks u true true false new = omega arith
+carried_marks u true false covers new = omega arith
+carried_marks u false true covers new = omega arith
+carried_marks (Ok u) false false covers true = omega arith
+carried_marks (Ok u) false false covers false = omega arith
+carried_marks (Err u) false false covers true = omega arith
+carried_marks (Err u) false false covers false = omega arith
 
 -- The mark on the way.
 
-pub marked_marks : (u : Weight) (deed : Deed) → (marked u deed).marks ≤ u.marks + 1
-unfolding marked
-marked_marks u (D.Assign g) = omega arith
-marked_marks u (D.Insert g) = omega arith
-marked_marks u D.Delete = omega arith
+mark_more : (u : Weight) (deed : Deed) → (with_mark deed u).marks ≤ u.marks + 1
+mark_more u (D.Assign g) = omega arith
+mark_more u (D.Insert g) = omega arith
+mark_more u D.Delete = omega arith
 
-pub marked_places : (u : Weight) (deed : Deed) → (marked u deed).places ≡ u.places
+pub marked_marks : (u : Forecast) (deed : Deed) → (weight_of (marked u deed)).marks ≤ (weight_of u).marks + 1
 unfolding marked
-marked_places u deed = refl
+marked_marks (Ok u) deed = mark_more u deed
+marked_marks (Err u) deed = mark_more u deed
+
+pub marked_places : (u : Forecast) (deed : Deed) → (weight_of (marked u deed)).places ≡ (weight_of u).places
+unfolding marked
+marked_places (Ok u) deed = refl
+marked_places (Err u) deed = refl
 
 way_deletes : (w : Way) → is_delete (deed_of w) ≡ deletes w
 unfolding deed_of deletes
@@ -191,11 +206,10 @@ way_deletes (insert p a) = refl
 way_deletes (into_map k w) = way_deletes w
 way_deletes (into_list e w) = way_deletes w
 
-pub mark-is : (d : List ℕ) (n : ℕ) (w : Way) (b : Block) (u : Weight) (deed : Deed) → GoesOn w → deed ≡ deed_of w
-    → Counted (under_change d (suc n) w b.under) u → Counted (run_change d n w b) (marked u deed)
-unfolding marked
-mark-is d n w b u deed g e C =
-    subst (λ c. Counted c (marked u deed)) (sym (run-change d n w b g))
+mark_counts : (d : List ℕ) (n : ℕ) (w : Way) (b : Block) (u : Weight) (deed : Deed) → GoesOn w → deed ≡ deed_of w
+    → Counted (under_change d (suc n) w b.under) u → Counted (run_change d n w b) (with_mark deed u)
+mark_counts d n w b u deed g e C =
+    subst (λ c. Counted c (with_mark deed u)) (sym (run-change d n w b g))
     (go (is_delete deed) (ap is_delete e ∙ way_deletes w))
   where
     go : (t : Bool) → t ≡ deletes w
@@ -222,3 +236,9 @@ mark-is d n w b u deed g e C =
           gone_marks = omega (arith, C.gone_marks);
           gone-values = omega (arith, C.gone-values);
         })
+
+pub mark-is : (d : List ℕ) (n : ℕ) (w : Way) (b : Block) (found : Bool) (u : Forecast) (deed : Deed) → GoesOn w → deed ≡ deed_of w
+    → Weighs found (under_change d (suc n) w b.under) u → Weighs found (run_change d n w b) (marked u deed)
+unfolding marked
+mark-is d n w b found (Ok u) deed g e W = record { found_is = W.found_is; counted = mark_counts d n w b u deed g e W.counted }
+mark-is d n w b found (Err u) deed g e W = record { found_is = W.found_is; counted = mark_counts d n w b u deed g e W.counted }

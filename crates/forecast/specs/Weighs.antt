@@ -2,7 +2,8 @@
 -- A place under a key is looked for among the rows that stand behind a place, its children of depth n first; rows that are shallower
 -- end them. Each promise says: if the tables hold rows, the answer is that of the rows.
 -- Assumes nothing: these are definitions.
-use Rattle.std.specs.Prelude.{ℕ, ◌+◌, ◌≤◌, ◌≡◌, Bool, true, false, cond, List, [], ◌∷◌, ◌++◌, length, Option, None, Some}
+use Rattle.std.specs.Prelude.{ℕ, ◌+◌, ◌≤◌, ◌≡◌, Bool, true, false, cond, List, [], ◌∷◌, ◌++◌, length}
+use Rattle.std.specs.Prelude.{Option, Some, Result, Ok, Err, is_ok}
 use Rattle.meaning.specs.Ways.{Way, steps}
 use Rattle.meaning.specs.Valid.{ValidWay}
 use Rattle.meaning.specs.Sheet.{Spot, Row}
@@ -68,15 +69,19 @@ pub record Counted (c : Change) (x : Weight) : Type 0 where
   pub gone_marks : x.gone_marks ≡ c.less.marks
   pub gone-values : x.gone_values ≡ c.less.values
 
--- whether the way is led; and if it is, what changes
-abbrev pub Weighs : Bool → Change → Option Weight → Type 0
-Weighs found c None = found ≡ false
-Weighs found c (Some x) = (found ≡ true) × Counted c x
+-- what a way comes to; as an error where an element on it isn't there, or isn't covered
+abbrev pub Forecast : Type 0
+Forecast = Result Weight Weight
 
--- at most so many places and marks come
-abbrev pub Few : ℕ → Option Weight → Type 0
-Few n None = Unit {0}
-Few n (Some x) = (x.places ≤ n) × (x.marks ≤ n)
+-- the numbers, whether the way is led or not
+abbrev pub weight_of : Forecast → Weight
+weight_of (Ok u) = u
+weight_of (Err u) = u
+
+-- whether the way is led, and what changes
+pub record Weighs (found : Bool) (c : Change) (x : Forecast) : Type 0 where
+  pub found_is : is_ok x ≡ found
+  pub counted : Counted c (weight_of x)
 
 abbrev pub nothing_weighed : Weight
 nothing_weighed = record { places = 0; marks = 0; values = 0; gone_marks = 0; gone_values = 0 }
@@ -100,14 +105,26 @@ element_weighed deed = record {
   gone_values = 0;
 }
 
-unfoldable pub marked : Weight → Deed → Weight
-marked u deed = record {
+-- the same way, with other numbers
+abbrev pub each : (Weight → Weight) → Forecast → Forecast
+each f (Ok u) = Ok (f u)
+each f (Err u) = Err (f u)
+
+abbrev pub with_mark : Deed → Weight → Weight
+with_mark deed u = record {
   places = u.places;
   marks = cond (is_delete deed) u.marks (u.marks + 1);
   values = u.values;
   gone_marks = u.gone_marks;
   gone_values = u.gone_values;
 }
+
+unfoldable pub marked : Forecast → Deed → Forecast
+marked u deed = each (with_mark deed) u
+
+-- the same numbers, of a way that isn't led
+abbrev pub unled : Forecast → Forecast
+unled u = Err (weight_of u)
 
 abbrev pub placed : Weight → Weight
 placed u = record {
@@ -118,10 +135,10 @@ placed u = record {
   gone_values = u.gone_values;
 }
 
-unfoldable pub carried : Weight → Bool → Bool → Bool → Bool → Option Weight
+unfoldable pub carried : Forecast → Bool → Bool → Bool → Bool → Forecast
 carried u there list covers makes =
-    cond there (cond list (cond covers (Some u) None) (Some u))
-    (cond list None (Some (cond makes (placed u) nothing_weighed)))
+    cond there (cond list (cond covers u (unled u)) u)
+    (cond list (Err nothing_weighed) (each (λ w. cond makes (placed w) nothing_weighed) u))
 
 -- an assign or a delete at its place
 pub record PlaceWeighed (h m v : List ℕ) (rows : ℕ) (s : Option Position) (d : List ℕ) (deed : Deed) (x : Weight) : Type 0 where
@@ -132,12 +149,13 @@ pub record PlaceWeighed (h m v : List ℕ) (rows : ℕ) (s : Option Position) (d
 
 -- a way from a place on; n is the depth of the rows that hang there, if any do
 pub record WayWeighed (h k m v : List ℕ) (rows : ℕ) (from : Option Position) (n : ℕ) (d : List ℕ) (deed : Deed) (way : List ℕ)
-    (x : Option Weight) : Type 0 where
-  pub few : Few (length way) x
+    (x : Forecast) : Type 0 where
+  pub few_places : (weight_of x).places ≤ length way
+  pub few_marks : (weight_of x).marks ≤ length way
   pub is : (c : Counts) (A B : List Row) (w : Way) → Holds (four h k m v) c (A ++ B) → rows ≡ c.rows
       → HangsBehind from A → way ≡ way_words w → deed ≡ deed_of w → ValidWay w → n + steps w ≤ 9
       → Weighs (elements_found_rows d n w (hanging from B)) (under_change d n w (hanging from B)) x
 
 -- the way of an operation that does o, from the root on
-abbrev pub Weighed : List ℕ → List ℕ → List ℕ → List ℕ → ℕ → Position → Act → List ℕ → Option Weight → Type 0
+abbrev pub Weighed : List ℕ → List ℕ → List ℕ → List ℕ → ℕ → Position → Act → List ℕ → Forecast → Type 0
 Weighed h k m v rows top o way x = WayWeighed h k m v rows (Some top) 1 o.deps.at o.deed way x

@@ -1,6 +1,6 @@
 // The judgement of an operation on the tables, before anything is changed: how many marks and values it takes away, how many places,
 // marks and values it adds, and whether each element on its way is there. Nothing is written. No function asks anything of its caller:
-// if the tables hold rows, the answers are those of the rows.
+// if the tables hold rows, the answers are those of the rows. Tables are lent as slices of any length (docs/DECISIONS.md, 40).
 #![tactic(auto)]
 
 mod loss;
@@ -12,11 +12,12 @@ ghost use Rattle.forecast.specs.Weighs.{SightGone, PlaceWeighed, WayWeighed, Wei
 use counters::covered;
 use deeds::is_delete;
 use finder::look;
-use loss::{NOTHING, gone, gone_row};
+use loss::NOTHING;
+pub use loss::{depth_at, gone, gone_row, gone_under};
 use message::{Act, Deed};
 use readers::{CARET, ELEMENT, Key};
 use sums::{WEIGHTLESS, carry, element, gives_plain, mark, put};
-use tables::{DEEPEST, Position, Tables, next_row};
+use tables::{DEEPEST, Position, next_row};
 
 // How many marks and values go.
 #[derive(Clone, Copy)]
@@ -35,28 +36,45 @@ pub struct Weight {
     pub gone_values: usize,
 }
 
+// What an operation comes to; or, as an error, the same where an element on its way isn't there or isn't covered.
+pub type Forecast = Result<Weight, Weight>;
+
 // What goes at a place that is assigned or deleted: of its own values, if the value is a plain one, else of its block.
-fn lost_at(t: &Tables, rows: usize, at: Option<Position>, o: &Act) -> Lost
-    ensures { SightGone t.now.heads t.now.marks t.now.values rows at o.now.deed o.now.deps.at result }
+fn lost_at(
+    heads: &[u64],
+    marks: &[u64],
+    values: &[u64],
+    rows: usize,
+    at: Option<Position>,
+    o: &Act,
+) -> Lost
+    ensures { SightGone heads.now marks.now values.now rows at o.now.deed o.now.deps.at result }
 {
     let Some(at) = at else {
         return NOTHING;
     };
     if gives_plain(o.deed) {
-        let g = gone_row(t, at, o.deps);
+        let g = gone_row(heads, marks, values, at, o.deps);
         return Lost {
             marks: 0,
             values: g.values,
         };
     }
-    gone(t, rows, at, o.deps)
+    gone(heads, marks, values, rows, at, o.deps)
 }
 
 // What an assign or a delete comes to at its place.
-fn weigh_place(t: &Tables, rows: usize, at: Option<Position>, o: &Act) -> Weight
-    ensures { PlaceWeighed t.now.heads t.now.marks t.now.values rows at o.now.deps.at o.now.deed result }
+fn weigh_place(
+    heads: &[u64],
+    marks: &[u64],
+    values: &[u64],
+    rows: usize,
+    at: Option<Position>,
+    o: &Act,
+) -> Weight
+    ensures { PlaceWeighed heads.now marks.now values.now rows at o.now.deps.at o.now.deed result }
 {
-    let g = lost_at(t, rows, at, o);
+    let g = lost_at(heads, marks, values, rows, at, o);
     Weight {
         gone_marks: g.marks,
         gone_values: g.values,
@@ -66,27 +84,31 @@ fn weigh_place(t: &Tables, rows: usize, at: Option<Position>, o: &Act) -> Weight
 
 // The way's last key: what an insert comes after, or the place of an assign or a delete.
 fn weigh_last(
-    t: &Tables,
+    heads: &[u64],
+    keys: &[u64],
+    marks: &[u64],
+    values: &[u64],
     rows: usize,
     from: Option<Position>,
     n: u64,
     o: &Act,
     key: Key,
-) -> Option<Weight>
-    ensures { WayWeighed t.now.heads t.now.keys t.now.marks t.now.values
+) -> Forecast
+    ensures { WayWeighed heads.now keys.now marks.now values.now
         rows from n o.now.deps.at o.now.deed (words_in key) result }
 {
     if let Deed::Insert(_) = o.deed {
         if key.len == CARET {
-            return Some(element(o.deed));
+            return Ok(element(o.deed));
         }
-        look(t, rows, from, n, key)?;
-        return covered(&o.deps, key.hi).then_some(element(o.deed));
+        look(heads, keys, rows, from, n, key).ok_or(WEIGHTLESS)?;
+        let u = element(o.deed);
+        return covered(&o.deps, key.hi).then_some(u).ok_or(u);
     }
-    let at = look(t, rows, from, n, key);
-    let u = weigh_place(t, rows, at, o);
+    let at = look(heads, keys, rows, from, n, key);
+    let u = weigh_place(heads, marks, values, rows, at, o);
     carry(
-        u,
+        Ok(u),
         at.is_some(),
         key.len == ELEMENT,
         covered(&o.deps, key.hi),
@@ -94,24 +116,26 @@ fn weigh_last(
     )
 }
 
-// What a way comes to from a place on: `from` is behind the place's own row, if it is there, and n the depth of its children. None: an
-// element on the way isn't there.
+// What a way comes to from a place on: `from` is behind the place's own row, if it is there, and n the depth of its children.
 fn weigh_way(
-    t: &Tables,
+    heads: &[u64],
+    keys: &[u64],
+    marks: &[u64],
+    values: &[u64],
     rows: usize,
     from: Option<Position>,
     n: u64,
     o: &Act,
     way: &[u64],
-) -> Option<Weight>
-    ensures { WayWeighed t.now.heads t.now.keys t.now.marks t.now.values
+) -> Forecast
+    ensures { WayWeighed heads.now keys.now marks.now values.now
         rows from n o.now.deps.at o.now.deed way.now result }
 {
     let [hi, lo, len, rest @ ..] = way else {
-        return Some(WEIGHTLESS);
+        return Ok(WEIGHTLESS);
     };
     if n > DEEPEST {
-        return Some(WEIGHTLESS);
+        return Ok(WEIGHTLESS);
     }
     let key = Key {
         hi: *hi,
@@ -119,11 +143,11 @@ fn weigh_way(
         len: *len,
     };
     if rest.is_empty() {
-        return weigh_last(t, rows, from, n, o, key);
+        return weigh_last(heads, keys, marks, values, rows, from, n, o, key);
     }
-    let at = look(t, rows, from, n, key);
-    let next = at.map(|at| next_row(&t.heads, at));
-    let under = weigh_way(t, rows, next, n + 1, o, rest)?;
+    let at = look(heads, keys, rows, from, n, key);
+    let next = at.map(|at| next_row(heads, at));
+    let under = weigh_way(heads, keys, marks, values, rows, next, n + 1, o, rest);
     let u = mark(under, o.deed);
     carry(
         u,
@@ -135,9 +159,18 @@ fn weigh_way(
 }
 
 // The same from the root on, of an operation that does o; the search for the way's first key stops at `top`.
-pub fn weigh(t: &Tables, rows: usize, top: Position, o: &Act, way: &[u64]) -> Option<Weight>
-    ensures { Weighed t.now.heads t.now.keys t.now.marks t.now.values
+pub fn weigh(
+    heads: &[u64],
+    keys: &[u64],
+    marks: &[u64],
+    values: &[u64],
+    rows: usize,
+    top: Position,
+    o: &Act,
+    way: &[u64],
+) -> Forecast
+    ensures { Weighed heads.now keys.now marks.now values.now
         rows top o.now way.now result }
 {
-    weigh_way(t, rows, Some(top), 1, o, way)
+    weigh_way(heads, keys, marks, values, rows, Some(top), 1, o, way)
 }

@@ -4,9 +4,7 @@ ghost use Rattle.forecast.specs.Goes.{together, RowGone, UnderGone, BlockGone, R
 
 use crate::Lost;
 use meaning::Counters;
-use tables::{
-    MARKS_ROOM, Position, ROWS_ROOM, Tables, VALUE_WORDS, VALUES_ROOM, head_at, head_in, next_row,
-};
+use tables::{MARKS_ROOM, Position, ROWS_ROOM, VALUE_WORDS, VALUES_ROOM, head_at, next_row};
 use words::covered_rows;
 
 pub const NOTHING: Lost = Lost {
@@ -28,27 +26,35 @@ impl Lost {
 }
 
 // How many marks and values of a row d covers.
-pub fn gone_row(t: &Tables, s: Position, d: Counters) -> Lost
-    ensures { RowGone t.now.heads t.now.marks t.now.values s d.at result }
+pub fn gone_row(heads: &[u64], marks: &[u64], values: &[u64], s: Position, d: Counters) -> Lost
+    ensures { RowGone heads.now marks.now values.now s d.at result }
 {
-    let head = head_at(&t.heads, s.row);
+    let head = head_at(heads, s.row);
     if s.mark > MARKS_ROOM || s.value > VALUES_ROOM {
         return NOTHING;
     }
-    if s.mark + head.marks > t.marks.len()
-        || s.value * VALUE_WORDS + head.values * VALUE_WORDS > t.values.len()
+    if s.mark + head.marks > marks.len()
+        || s.value * VALUE_WORDS + head.values * VALUE_WORDS > values.len()
     {
         return NOTHING;
     }
     Lost {
-        marks: covered_rows::<1>(&t.marks, s.mark, head.marks, d),
-        values: covered_rows::<VALUE_WORDS>(&t.values, s.value * VALUE_WORDS, head.values, d),
+        marks: covered_rows::<1>(marks, s.mark, head.marks, d),
+        values: covered_rows::<VALUE_WORDS>(values, s.value * VALUE_WORDS, head.values, d),
     }
 }
 
 // The same of the rows deeper than n, from a place on up to the first that isn't.
-pub fn gone_under(t: &Tables, rows: usize, from: Position, n: u64, d: Counters) -> Lost
-    ensures { UnderGone t.now.heads t.now.marks t.now.values rows from n d.at result }
+pub fn gone_under(
+    heads: &[u64],
+    marks: &[u64],
+    values: &[u64],
+    rows: usize,
+    from: Position,
+    n: u64,
+    d: Counters,
+) -> Lost
+    ensures { UnderGone heads.now marks.now values.now rows from n d.at result }
 {
     let mut at = from;
     let mut sum = NOTHING;
@@ -57,11 +63,11 @@ pub fn gone_under(t: &Tables, rows: usize, from: Position, n: u64, d: Counters) 
     }
     // It stays a `while`: the place moves on by what each row's head says, and the first row that isn't deeper ends it.
     while at.row < rows {
-        let head = head_in(t.heads[at.row]);
+        let head = head_at(heads, at.row);
         if head.depth <= n {
             return sum;
         }
-        let g = gone_row(t, at, d);
+        let g = gone_row(heads, marks, values, at, d);
         sum = sum.plus(g);
         at = Position {
             row: at.row + 1,
@@ -73,19 +79,26 @@ pub fn gone_under(t: &Tables, rows: usize, from: Position, n: u64, d: Counters) 
 }
 
 // How deep a row is.
-pub fn depth_at(t: &Tables, row: usize) -> u64
-    ensures { RowDeep t.now.heads row result }
+pub fn depth_at(heads: &[u64], row: usize) -> u64
+    ensures { RowDeep heads.now row result }
 {
-    head_at(&t.heads, row).depth
+    head_at(heads, row).depth
 }
 
 // What goes of a block: of the row at s and the deeper rows behind it.
-pub fn gone(t: &Tables, rows: usize, s: Position, d: Counters) -> Lost
-    ensures { BlockGone t.now.heads t.now.marks t.now.values rows s d.at result }
+pub fn gone(
+    heads: &[u64],
+    marks: &[u64],
+    values: &[u64],
+    rows: usize,
+    s: Position,
+    d: Counters,
+) -> Lost
+    ensures { BlockGone heads.now marks.now values.now rows s d.at result }
 {
-    let own = gone_row(t, s, d);
-    let next = next_row(&t.heads, s);
-    let n = depth_at(t, s.row);
-    let under = gone_under(t, rows, next, n, d);
+    let own = gone_row(heads, marks, values, s, d);
+    let next = next_row(heads, s);
+    let n = depth_at(heads, s.row);
+    let under = gone_under(heads, marks, values, rows, next, n, d);
     own.plus(under)
 }

@@ -1,9 +1,9 @@
 // What comes and goes at the places of a way, summed up.
-ghost use Rattle.std.specs.Prelude.{◌≡◌, ◌<◌};
-ghost use Rattle.forecast.specs.Weighs.{plain_given, gives_plain, marked, carried, nothing_weighed, put_weighed};
+ghost use Rattle.std.specs.Prelude.{◌≡◌, ◌<◌, cond};
+ghost use Rattle.forecast.specs.Weighs.{plain_given, gives_plain, weight_of, marked, placed, carried, nothing_weighed, put_weighed};
 ghost use Rattle.forecast.specs.Weighs.{element_weighed};
 
-use crate::Weight;
+use crate::{Forecast, Weight};
 use deeds::is_delete;
 use message::Deed;
 use readers::Given;
@@ -57,37 +57,57 @@ pub fn element(deed: Deed) -> Weight
 
 // The mark on the way, unless the operation deletes.
 #[tactic(auto, unfolding(crate::specs::Weighs::marked))]
-pub fn mark(u: Weight, deed: Deed) -> Weight
-    requires { u.marks < 9223372036854775808 }
+pub fn mark(u: Forecast, deed: Deed) -> Forecast
+    requires { (weight_of u).marks < 9223372036854775808 }
     ensures { result ≡ marked u deed }
 {
     if is_delete(deed) {
         return u;
     }
-    Weight {
-        marks: u.marks + 1,
-        ..u
+    match u {
+        Ok(w) => Ok(Weight {
+            marks: w.marks + 1,
+            ..w
+        }),
+        Err(w) => Err(Weight {
+            marks: w.marks + 1,
+            ..w
+        }),
     }
+}
+
+// What is weighed at a place under a map key that is unknown: it is made, if it is not deleted.
+fn place(w: Weight, makes: bool) -> Weight
+    requires { w.places < 9223372036854775808 }
+    ensures { result ≡ cond makes (placed w) nothing_weighed }
+{
+    if makes {
+        return Weight {
+            places: w.places + 1,
+            ..w
+        };
+    }
+    WEIGHTLESS
 }
 
 // What is weighed at a place that was looked for under a key: an element has to be there, and to be covered; an unknown place under a map
 // key is made, if it is not deleted.
 #[tactic(auto, unfolding(crate::specs::Weighs::carried))]
-pub fn carry(u: Weight, there: bool, list: bool, covers: bool, makes: bool) -> Option<Weight>
-    requires { u.places < 9223372036854775808 }
+pub fn carry(u: Forecast, there: bool, list: bool, covers: bool, makes: bool) -> Forecast
+    requires { (weight_of u).places < 9223372036854775808 }
     ensures { result ≡ carried u there list covers makes }
 {
-    if list && !(there && covers) {
-        return None;
-    }
     if there {
-        return Some(u);
+        return match u {
+            Ok(w) if list && !covers => Err(w),
+            _ => u,
+        };
     }
-    if makes {
-        return Some(Weight {
-            places: u.places + 1,
-            ..u
-        });
+    if list {
+        return Err(WEIGHTLESS);
     }
-    Some(WEIGHTLESS)
+    match u {
+        Ok(w) => Ok(place(w, makes)),
+        Err(w) => Err(place(w, makes)),
+    }
 }

@@ -1,10 +1,11 @@
 -- 10: the room that is counted is the room that the operation leaves.
 -- Assumes nothing.
-use Prim.Native.Nat.{ℕ, suc, ◌+◌, ◌≤◌}
+use Prim.Native.Nat.{ℕ, suc, ◌+◌, ◌≤◌, ◌<◌}
 use native.Mathlib.Omega.{arith}
 use mathlib.Core.Path.{◌≡◌, refl, sym, ap, ◌∙◌}
 use mathlib.Core.Bool.{Bool, true, false, cond, ◌&&◌}
 use mathlib.Core.List.{List}
+use borrow.Author.Tests.{le-leb, lt-leb}
 use lib.Dec.{leb}
 use lib.ListN.{length}
 use Rattle.meaning.specs.Ways.{Assigned, plain, empty_map, empty_list, Way, assign, delete, insert, into_map, into_list}
@@ -105,3 +106,21 @@ module _ (T : Tables) (c : Counts) (D : Document) (o : M.Operation) (S : Stores 
       let values = leb (values_in (rows_of D) + ch.more.values) (256 + ch.less.values) in
       rw (H.rows_are, H.marks_are, H.values_are, W.places, W.marks, W.values, W.gone_marks, W.gone-values)
       (ap (λ y. leb (length (rows_of D) + ch.more.places) y && marks && values) a ∙ sym (room_rows o D S.sound n))
+
+-- the tests, one after another
+module _ (c : Counts) (w : Weight) where
+  -- too many places
+  pub no_places : 256 < c.rows + w.places → false ≡ has_room c w
+  unfolding has_room
+  no_places h = rw (lt-leb (c.rows + w.places) 256 h)
+
+  -- too many marks
+  pub no_marks : c.rows + w.places ≤ 256 → 1024 + w.gone_marks < c.marks + w.marks → false ≡ has_room c w
+  unfolding has_room
+  no_marks h k = rw (le-leb (c.rows + w.places) 256 h, lt-leb (c.marks + w.marks) (1024 + w.gone_marks) k)
+
+  -- where there is room for both, the values decide
+  pub the_values : c.rows + w.places ≤ 256 → c.marks + w.marks ≤ 1024 + w.gone_marks
+      → leb (c.values + w.values) (256 + w.gone_values) ≡ has_room c w
+  unfolding has_room
+  the_values h k = rw (le-leb (c.rows + w.places) 256 h, le-leb (c.marks + w.marks) (1024 + w.gone_marks) k)

@@ -3,9 +3,10 @@
 use Prim.Native.Nat.{ℕ, ◌*◌, ◌-◌, ◌≤◌, ◌<◌}
 use native.Mathlib.Omega.{arith}
 use mathlib.Core.Path.{◌≡◌, refl, sym, ap, ap₂, ◌∙◌, subst}
-use mathlib.Core.Bool.{Bool, true, false, not}
+use mathlib.Core.Bool.{Bool, true, false, not, true≢false, false≢true}
 use mathlib.Core.List.{List}
-use Rattle.std.specs.Prelude.{Ok, Err, Option, None, Some}
+use Rattle.std.specs.Prelude.{Ok, Err, is_ok}
+use Rattle.std.specs.Result.{result_or}
 use lib.ListN.{length, get_or, take}
 use Rattle.meaning.specs.Places.{Document}
 use Rattle.meaning.specs.Apply.{apply}
@@ -27,10 +28,11 @@ use Rattle.tables.specs.declared.Tables.{Tables}
 use Rattle.tables.specs.Holding.{Holds, four}
 use Rattle.tables.specs.declared.Counts.{Counts}
 use Rattle.tables.specs.declared.Position.{Position}
-use Rattle.forecast.specs.Weighs.{Counted, Few, Weighs, Weighed}
+use Rattle.forecast.specs.Weighs.{Forecast, weight_of, Weighs, Weighed}
 use Rattle.forecast.specs.declared.Weight.{Weight}
 use Rattle.keeping.specs.Storing.{Stores}
 use Rattle.judging.specs.Judging.{ReadyJudgement, Small, has_room, goes_down, ready_verdict, top_position, Newer, JudgesReady}
+use Rattle.judging.specs.declared.Unfit.{Unfit}
 use Rattle.judging.specs.declared.Unfit.TheVariants as Y
 use Rattle.judging.proofs.Words.{words_count, down_pad}
 use Rattle.judging.proofs.Rooms.{weight_small, room-is}
@@ -43,6 +45,15 @@ whole o = into_map o.top o.way
 twice : (b : Bool) → b ≡ not (not b)
 twice true = refl
 twice false = refl
+
+-- the numbers of a way that is led, and else the refusal
+pub or_led : (x : Forecast) (f : Unfit) (u : Weight) → result_or x (Err f) ≡ Ok u → x ≡ Ok u
+or_led (Ok w) f u e = let i : w ≡ u = cc in ap Ok i
+or_led (Err w) f u e = absurd (false≢true (ap is_ok e))
+
+pub or_lost : (x : Forecast) (f y : Unfit) → result_or x (Err f) ≡ Err y → (is_ok x ≡ false) × (y ≡ f)
+or_lost (Ok w) f y e = absurd (true≢false (ap is_ok e))
+or_lost (Err w) f y e = (refl, cc)
 
 -- 9, of an operation by the words of its last key
 abbrev goes_down_at : Operation → ℕ → ℕ → Bool
@@ -79,7 +90,7 @@ module _ (op : Operation) (o : M.Operation) (e : Means op o) (v : ValidOperation
       rw (deed_whole, e.id, words_whole, s.0) (down_pad o.id (whole o) tt s.1)
 
 module _ (h k m v : List ℕ) (c : Counts) (op : Operation) (way : List ℕ) (part : way ≡ take (3 * op.way.n) op.way.keys)
-    (from : Position) (x : Option Weight) (W : Weighed h k m v c.rows from op.act way x) where
+    (from : Position) (x : Forecast) (W : Weighed h k m v c.rows from op.act way x) where
   module _ (D : Document) (o : M.Operation) (S : Stores (four h k m v) c D.seen D) (e : Means op o)
       (val : ValidOperation o) (f : from ≡ top_position o D) where
     weighed : Weighs (not (astray D o)) (change o (rows_of D)) x
@@ -102,35 +113,31 @@ module _ (h k m v : List ℕ) (c : Counts) (op : Operation) (way : List ℕ) (pa
     long : length way ≤ 24
     long = omega (arith, ap length (part ∙ way_part op o e val), words_count (whole o), (steps-whole op o e val).1)
 
-    astray_by : (b : Bool) → not (astray D o) ≡ b → astray D o ≡ not b
-    astray_by b e = twice (astray D o) ∙ ap not e
+    stray : (b : Bool) → is_ok x ≡ b → astray D o ≡ not b
+    stray b t = twice (astray D o) ∙ ap not (sym weighed.found_is ∙ t)
 
-    stray : x ≡ None → astray D o ≡ true
-    stray t = astray_by false (subst (Weighs (not (astray D o)) (change o (rows_of D))) t weighed)
+    small : Newer D o → Small c (weight_of x)
+    small y =
+        weight_small (four h k m v) c D o S y (weight_of x) weighed.counted (omega (arith, W.few_places, long)) (omega (arith, W.few_marks, long))
 
-    module _ (u : Weight) (t : x ≡ Some u) where
-      counted : (not (astray D o) ≡ true) × Counted (change o (rows_of D)) u
-      counted = subst (Weighs (not (astray D o)) (change o (rows_of D))) t weighed
+    room : Newer D o → has_room c (weight_of x) ≡ fits (apply o D)
+    room y = room-is (four h k m v) c D o S y (weight_of x) weighed.counted (omega (arith, W.few_places, long)) (omega (arith, W.few_marks, long))
 
-      led : astray D o ≡ false
-      led = astray_by true counted.0
-
-      few : (u.places ≤ length way) × (u.marks ≤ length way)
-      few = subst (Few (length way)) t W.few
-
-      small : Newer D o → Small c u
-      small y = weight_small (four h k m v) c D o S y u counted.1 (omega (arith, few.0, long)) (omega (arith, few.1, long))
-
-      room : Newer D o → has_room c u ≡ fits (apply o D)
-      room y = room-is (four h k m v) c D o S y u counted.1 (omega (arith, few.0, long)) (omega (arith, few.1, long))
-
-  pub judge_eight : x ≡ None → JudgesReady (four h k m v) c from op (Err Y.NoElement)
+  pub judge_eight : is_ok x ≡ false → JudgesReady (four h k m v) c from op (Err Y.NoElement)
   unfolding ready_verdict
-  judge_eight t D o S e val y f = rw (stray D o S e val f t)
+  judge_eight t D o S e val y f = rw (stray D o S e val f false t)
 
-  module _ (u : Weight) (t : x ≡ Some u) where
+  module _ (u : Weight) (t : x ≡ Ok u) where
+    led : (D : Document) (o : M.Operation) → Stores (four h k m v) c D.seen D → Means op o → ValidOperation o → from ≡ top_position o D
+        → astray D o ≡ false
+    led D o S e val f = stray D o S e val f true (ap is_ok t)
+
+    fit : (D : Document) (o : M.Operation) → Stores (four h k m v) c D.seen D → Means op o → ValidOperation o → from ≡ top_position o D
+        → Newer D o → has_room c u ≡ fits (apply o D)
+    fit D o S e val f y = subst (λ x. has_room c (weight_of x) ≡ fits (apply o D)) t (room D o S e val f y)
+
     pub judge_large : (Small c u → ⊥) → (r : ReadyJudgement) → JudgesReady (four h k m v) c from op r
-    judge_large l r D o S e val y f = absurd (l (small D o S e val f u t y))
+    judge_large l r D o S e val y f = absurd (l (subst (λ x. Small c (weight_of x)) t (small D o S e val f y)))
 
     module _ (hi len : ℕ) (a : hi ≡ get_or op.way.keys (3 * op.way.n - 3) 0) (b : len ≡ get_or op.way.keys (3 * op.way.n - 1) 0) where
       down : (o : M.Operation) → Means op o → ValidOperation o → (y : Bool) → goes_down_at op hi len ≡ y → downward o ≡ y
@@ -138,17 +145,17 @@ module _ (h k m v : List ℕ) (c : Counts) (op : Operation) (way : List ℕ) (pa
 
       pub judge_nine : goes_down_at op hi len ≡ true → JudgesReady (four h k m v) c from op (Err Y.NotSmaller)
       unfolding ready_verdict
-      judge_nine g D o S e val y f = rw (led D o S e val f u t, down o e val true g)
+      judge_nine g D o S e val y f = rw (led D o S e val f, down o e val true g)
 
       pub judge_ten : goes_down_at op hi len ≡ false → has_room c u ≡ false → JudgesReady (four h k m v) c from op (Err Y.NoRoom)
       unfolding ready_verdict
       judge_ten g r D o S e val y f =
-          rw (led D o S e val f u t, down o e val false g, sym (room D o S e val f u t y) ∙ r)
+          rw (led D o S e val f, down o e val false g, sym (fit D o S e val f y) ∙ r)
 
       pub judge_taken : goes_down_at op hi len ≡ false → has_room c u ≡ true → JudgesReady (four h k m v) c from op (Ok tt)
       unfolding ready_verdict
       judge_taken g r D o S e val y f =
-          rw (led D o S e val f u t, down o e val false g, sym (room D o S e val f u t y) ∙ r)
+          rw (led D o S e val f, down o e val false g, sym (fit D o S e val f y) ∙ r)
 
 -- a way has one to eight keys
 module _ (T : Tables) (c : Counts) (from : Position) (op : Operation) (r : ReadyJudgement) where

@@ -1,10 +1,11 @@
 -- The words of a whole way, in the 24 words that an operation has for them.
 -- Assumes nothing.
-use Prim.Native.Nat.{ℕ, zero, suc, ◌+◌, ◌*◌, ◌-◌, ◌≤◌}
+use Prim.Native.Nat.{ℕ, zero, suc, ◌+◌, ◌*◌, ◌-◌, ◌≤◌, ◌<◌}
 use native.Mathlib.Omega.{arith}
 use mathlib.Core.Path.{◌≡◌, refl, sym, ap, ap₂, ◌∙◌}
 use mathlib.Core.Bool.{Bool, true, false, cond, not}
 use mathlib.Core.List.{List, [], ◌∷◌}
+use borrow.Author.Tests.{eq-eqb, ne_eqb, lt-ltb, le-ltb}
 use lib.Dec.{ltb, eqb}
 use lib.ListN.{length, get_or}
 use lib.Seq.{get_or-append-add}
@@ -101,3 +102,20 @@ down_pad i w g h =
     let l : length (way_words w) ≤ 24 = omega (arith, words_count w) in
     ap₂ (goes_down (deed_of w) i) (get_pad 24 (way_words w) (3 * steps w - 3) l) (get_pad 24 (way_words w) (3 * steps w - 1) l)
     ∙ (sym (last-is (deed_of w) i (steps w) (way_words w)) ∙ down_way i w g)
+
+-- the tests, one after another
+module _ (deed : Deed) (i hi len : ℕ) where
+  -- the last key names no element
+  pub down_other : (len ≡ 17 → ⊥) → false ≡ goes_down deed i hi len
+  unfolding goes_down
+  down_other n = rw (ne_eqb len 17 n)
+
+  -- it names a smaller one
+  pub down_smaller : len ≡ 17 → hi < i → false ≡ goes_down deed i hi len
+  unfolding goes_down
+  down_smaller e h = rw (eq-eqb len 17 e, lt-ltb hi i h)
+
+  -- where it names no smaller one, the deed decides
+  pub down_insert : len ≡ 17 → i ≤ hi → is_insert deed ≡ goes_down deed i hi len
+  unfolding goes_down
+  down_insert e h = rw (eq-eqb len 17 e, le-ltb hi i h)

@@ -1,19 +1,20 @@
 // Document 01, "What is answered": an operation judged on the document as it stands, before anything is changed. Whatever the memory
-// contains, each function stays in bounds and terminates, and it changes no word.
+// contains, each function stays in bounds and terminates, and it changes no word. Tables are lent as slices of any length
+// (docs/DECISIONS.md, 40).
 #![tactic(auto)]
 
 mod limits;
 
 ghost use Rattle.std.specs.Prelude.{◌≡◌};
+ghost use Rattle.tables.specs.Holding.{four};
 ghost use Rattle.judging.specs.Judging.{is_taken, TopsIn, JudgesCounters, JudgesReady, Judges};
 ghost use Rattle.judging.specs.Errors.{refusal_of, receive_error, edit_error};
 
-use keeping::Document;
 use limits::{goes_down, has_room, is_small};
 use meaning::{Counters, EditError, ReceiveError};
 use message::Operation;
 use readers::Key;
-use tables::{Position, START};
+use tables::{Counts, Position, START};
 
 // The refusals of an operation, by name: 2, 3, 4, 8, 9, 10.
 #[derive(Clone, Copy, PartialEq, Eq)]
@@ -84,8 +85,16 @@ impl From<Unfit> for EditError {
 }
 
 // 8, 9, 10, of an operation that is ready, from where the search for its first key stops.
-pub fn judge_ready(d: &Document, top: Position, op: Operation) -> Result<(), Unfit>
-    ensures { JudgesReady d.now.tables d.now.counts top op result }
+pub fn judge_ready(
+    heads: &[u64],
+    keys: &[u64],
+    marks: &[u64],
+    values: &[u64],
+    c: Counts,
+    top: Position,
+    op: Operation,
+) -> Result<(), Unfit>
+    ensures { JudgesReady (four heads.now keys.now marks.now values.now) c top op result }
 {
     let n = op.way.n;
     if n == 0 || n > 8 {
@@ -93,13 +102,21 @@ pub fn judge_ready(d: &Document, top: Position, op: Operation) -> Result<(), Unf
     }
     let words = op.way.keys;
     let end = 3 * n;
-    let w = forecast::weigh(&d.tables, d.counts.rows, top, &op.act, &words[..end]).ok_or(
-        Unfit::NoElement,
-    )?;
+    let w = forecast::weigh(
+        heads,
+        keys,
+        marks,
+        values,
+        c.rows,
+        top,
+        &op.act,
+        &words[..end],
+    )
+    .or(Err(Unfit::NoElement))?;
     if goes_down(op.act.deed, op.act.id, words[end - 3], words[end - 1]) {
         return Err(Unfit::NotSmaller);
     }
-    if !is_small(d.counts, w) || !has_room(d.counts, w) {
+    if !is_small(c, w) || !has_room(c, w) {
         return Err(Unfit::NoRoom);
     }
     Ok(())
@@ -127,8 +144,8 @@ pub fn judge_counters(seen: Counters, op: Operation) -> Judgement
 }
 
 // Where the search for the way's first key stops: it is the longest, and made once for judging and carrying out.
-pub fn top_of(d: &Document, op: Operation) -> Position
-    ensures { TopsIn d.now.tables.heads d.now.tables.keys d.now.counts.rows op.way.keys result }
+pub fn top_of(heads: &[u64], keys: &[u64], rows: usize, op: Operation) -> Position
+    ensures { TopsIn heads.now keys.now rows op.way.keys result }
 {
     let words = op.way.keys;
     let top = Key {
@@ -137,18 +154,26 @@ pub fn top_of(d: &Document, op: Operation) -> Position
         len: words[2],
     };
     let w = tables::search_of(1, top);
-    tables::find(&d.tables, d.counts.rows, START, w)
+    tables::find(heads, keys, rows, START, w)
 }
 
 // 2, 3, 4; then, if it is ready, 8, 9, 10.
-pub fn judge(d: &Document, op: Operation) -> Judgement
-    ensures { Judges d.now.tables d.now.counts d.now.seen op result }
+pub fn judge(
+    heads: &[u64],
+    keys: &[u64],
+    marks: &[u64],
+    values: &[u64],
+    c: Counts,
+    seen: Counters,
+    op: Operation,
+) -> Judgement
+    ensures { Judges (four heads.now keys.now marks.now values.now) c seen op result }
 {
-    let readiness = judge_counters(d.seen, op)?;
+    let readiness = judge_counters(seen, op)?;
     match readiness {
         Readiness::Ready => {
-            let top = top_of(d, op);
-            judge_ready(d, top, op)?;
+            let top = top_of(heads, keys, c.rows, op);
+            judge_ready(heads, keys, marks, values, c, top, op)?;
             Ok(Readiness::Ready)
         }
         Readiness::Early => Ok(Readiness::Early),

@@ -3,7 +3,7 @@
 #![tactic(auto)]
 
 ghost use Rattle.std.specs.Prelude.{◌≡◌};
-ghost use Rattle.keeping.specs.Keeping.{within_memory};
+ghost use Rattle.keeping.specs.Keeping.{within_counts};
 
 use meaning::Counters;
 use tables::{Counts, Tables};
@@ -25,10 +25,10 @@ pub struct Memory {
     pub count: usize,
 }
 
-// Whether what is counted has room in the tables.
-#[tactic(auto, unfolding(crate::specs::Keeping::within_memory))]
-pub fn within(m: &Memory) -> bool
-    ensures { result ≡ within_memory m.now }
+// Whether so many rows, marks and values, and so many waiting operations, have room in a terminal's memory.
+#[tactic(auto, unfolding(crate::specs::Keeping::within_counts))]
+pub fn within(c: Counts, count: usize) -> bool
+    ensures { result ≡ within_counts c count }
 {
-    m.count <= MOST && tables::within(m.document.counts)
+    count <= MOST && tables::within(c)
 }

@@ -14,12 +14,12 @@ use Rattle.lines.specs.declared.place.Spot.{Spot}
 use Rattle.lines.specs.declared.place.Spot.TheVariants.{Key, Element}
 
 module _ {p : Spot} {flags : List ℕ} {f : ℕ} (one : flags ≡ f ∷ []) where
-  key_spot : {k : KeyWords} → p ≡ Key k
+  pub key_spot : {k : KeyWords} → p ≡ Key k
       → spot_text (spot_of p) flags ≡ (byte "{" ∷ f ∷ []) ++ hex (bytes_of (k.hi ∷ k.lo ∷ []) k.len)
   unfolding spot_text
   key_spot {k} e = ap (λ q. spot_text (spot_of q) flags) e ∙ ap (λ l. byte "{" ∷ (l ++ hex (bytes_of (k.hi ∷ k.lo ∷ []) k.len))) one
 
-  element_spot : {id : ℕ} → p ≡ Element id → spot_text (spot_of p) flags ≡ (byte "[" ∷ f ∷ []) ++ id_text id
+  pub element_spot : {id : ℕ} → p ≡ Element id → spot_text (spot_of p) flags ≡ (byte "[" ∷ f ∷ []) ++ id_text id
   unfolding spot_text
   element_spot {id} e = ap (λ q. spot_text (spot_of q) flags) e ∙ ap (λ l. byte "[" ∷ (l ++ id_text id)) one
 

@@ -27,3 +27,7 @@ module _ {h k : List ℕ} {count from d : ℕ} {p : Place} (u : Under h k count 
 
   pub under_count : from + length (rows (suc d) p ++ u.later) ≡ count
   under_count = omega (arith, u.counted, u.holds.rows_are, u.here, length-append u.ahead (rows (suc d) p ++ u.later))
+
+  -- the table of heads has its whole room
+  pub under_long : length h ≡ heads_room
+  under_long = heads_long (four h k u.marks u.values) u.counts (u.ahead ++ (rows (suc d) p ++ u.later)) u.holds

@@ -3,7 +3,7 @@ ghost use Rattle.std.specs.Prelude.{◌≡◌, ◌≤◌, ◌<◌, length};
 ghost use Rattle.tables.specs.Holding.{heads_room};
 ghost use Rattle.listings.specs.Texts.{is_listed, IsNth};
 
-use tables::{Head, Side, Tables, head_in};
+use tables::{Head, Side, head_in};
 
 // Whether a row hangs right under a place of this depth, in the branch of this side, and has a mark.
 #[tactic(auto, unfolding(crate::specs::Texts::is_listed))]
@@ -14,14 +14,14 @@ pub fn is_listed(h: Head, depth: u64, side: Side) -> bool
 }
 
 // The row of the element of this index among the rows from one on.
-pub fn nth_row(t: &Tables, rows: usize, from: usize, depth: u64, index: u64) -> Option<usize>
-    requires { (from ≤ rows) × (rows ≤ heads_room) × (0 < index) }
-    ensures { IsNth t.now.heads rows from depth index result }
+pub fn nth_row(heads: &[u64], rows: usize, from: usize, depth: u64, index: u64) -> Option<usize>
+    requires { (from ≤ rows) × (rows ≤ heads_room) × (rows ≤ length heads.now) × (0 < index) }
+    ensures { IsNth heads.now rows from depth index result }
 {
     let mut n = index;
     // By number, since the row's number is the answer: over the slice `heads[from..rows]` it would be counted anew, and `from` added to it.
     for i in from..rows {
-        let h = head_in(t.heads[i]);
+        let h = head_in(heads[i]);
         if h.depth <= depth {
             return None;
         }

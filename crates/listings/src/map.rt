@@ -8,7 +8,7 @@ use crate::Extent;
 use crate::list::is_listed;
 use lines::{Row, key_row};
 use readers::{Key, LONGEST};
-use tables::{Head, Side, Tables, head_at, key_at};
+use tables::{Head, Side, head_at, key_at};
 use writers::{Hex, Many, Pieces, Text};
 
 // Whether a row is one of the map of a place of this depth: it hangs right under it by a key, or deeper.
@@ -49,20 +49,20 @@ fn key_of(h: Head, keys: &[u64], depth: u64, row: usize) -> Option<Row<Hex<2>>>
 }
 
 // How many rows the map has, from one on, and how many bytes their keys take. By number, since a row is told by two tables.
-pub fn extent(t: &Tables, rows: usize, from: usize, depth: u64) -> Extent
+pub fn extent(heads: &[u64], keys: &[u64], rows: usize, from: usize, depth: u64) -> Extent
     requires { (from ≤ rows) × (rows ≤ heads_room) }
-    ensures { Extends t.now.heads t.now.keys rows from depth result }
+    ensures { Extends heads.now keys.now rows from depth result }
 {
     let mut size: usize = 0;
     for i in from..rows {
-        let h = head_at(&t.heads, i);
+        let h = head_at(heads, i);
         if !of_map(h, depth) {
             return Extent {
                 rows: i - from,
                 size,
             };
         }
-        size += key_of(h, &t.keys, depth, i).size();
+        size += key_of(h, keys, depth, i).size();
     }
     Extent {
         rows: rows - from,
@@ -73,7 +73,8 @@ pub fn extent(t: &Tables, rows: usize, from: usize, depth: u64) -> Extent
 // Keys, of the rows from one on.
 #[derive(Clone, Copy)]
 pub struct Keys<'a> {
-    pub tables: &'a Tables,
+    pub heads: &'a [u64],
+    pub keys: &'a [u64],
     pub depth: u64,
     pub at: usize,
 }
@@ -81,9 +82,9 @@ pub struct Keys<'a> {
 impl<'a> Pieces for Keys<'a> {
     type Piece = Option<Row<Hex<2>>>;
 
-    ghost text = { λ k. key_text k.tables.now.heads k.tables.now.keys k.depth k.at };
+    ghost text = { λ k. key_text k.heads.now k.keys.now k.depth k.at };
 
-    ghost next = { λ k. record { tables = k.tables; depth = k.depth; at = k.at + 1 } };
+    ghost next = { λ k. record { heads = k.heads; keys = k.keys; depth = k.depth; at = k.at + 1 } };
 
     ghost each = { 33 };
 
@@ -92,12 +93,7 @@ impl<'a> Pieces for Keys<'a> {
     ghost Here = { λ k. k.at < heads_room };
 
     fn piece(&self) -> Option<Row<Hex<2>>> {
-        key_of(
-            head_at(&self.tables.heads, self.at),
-            &self.tables.keys,
-            self.depth,
-            self.at,
-        )
+        key_of(head_at(self.heads, self.at), self.keys, self.depth, self.at)
     }
 
     fn next(self) -> Keys<'a> {
@@ -111,13 +107,20 @@ impl<'a> Pieces for Keys<'a> {
 }
 
 // The keys of n rows, from one on.
-pub fn keys_of<'a>(t: &'a Tables, depth: u64, from: usize, n: usize) -> Many<Keys<'a>>
+pub fn keys_of<'a>(
+    heads: &'a [u64],
+    keys: &'a [u64],
+    depth: u64,
+    from: usize,
+    n: usize,
+) -> Many<Keys<'a>>
     requires { from + n ≤ heads_room }
-    ensures text { ⟦<Many<Keys<'a>> as Text>⟧.text result ≡ keys_from t.now.heads t.now.keys depth from n }
+    ensures text { ⟦<Many<Keys<'a>> as Text>⟧.text result ≡ keys_from heads.now keys.now depth from n }
     ensures valid { ⟦<Many<Keys<'a>> as Text>⟧.Valid result }
 {
     let first = Keys {
-        tables: t,
+        heads,
+        keys,
         depth,
         at: from,
     };

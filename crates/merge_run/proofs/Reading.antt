@@ -3,9 +3,15 @@
 use Prim.Native.Nat.{ℕ, zero, suc, ◌+◌, ◌-◌, ◌≤◌, ◌<◌, min}
 use native.Mathlib.Omega.{arith}
 use mathlib.Core.Path.{◌≡◌, refl, sym, ap, subst, ◌∙◌}
+use mathlib.Core.Bool.{not}
 use mathlib.Core.List.{List, ◌++◌}
+use lib.Dec.{eqb}
+use lib.IntN.{ℤ, pos, negsuc}
 use lib.ListN.{length, take, drop, length-take, length-drop}
 use borrow.Rule.Slice.PartMut.{put_mid, same_len_mid, take_put}
+use mir.Syntax.{w32}
+use mir.Val.{SFits, of_z}
+use borrow.Author.Tests.{ne_eqb}
 use Rattle.std.specs.Prelude.{None, Result, Ok, Err}
 use Rattle.std.specs.Io.{ReadsAtMost}
 use Rattle.std.specs.declared.io.Error.{Error}
@@ -14,7 +20,7 @@ use Rattle.stream.specs.Pieces.{held, CutInside, Moved}
 use Rattle.stream.specs.declared.Cut.{Cut}
 use Rattle.stream.proofs.Pieces.{drop-take}
 use Rattle.stream.proofs.Moving.{grown_holds, grown_held}
-use Rattle.merge_run.specs.Run.{brought}
+use Rattle.merge_run.specs.Run.{interruption, brought}
 use Rattle.merge_run.specs.Promises.{read_bytes, Came, ReadOn}
 use Rattle.merge_run.specs.declared.Input.{Input}
 
@@ -31,6 +37,11 @@ came_behind {b} {c} (suc n) k h free some e =
       reads = record { bytes = grown_held b b c k h refl fits ∙ ap (λ l. held b c ++ l) part; passing = refl };
       told = refl;
     }
+
+-- An error number is told from its bits.
+pub bits_interruption : (errno : ℤ) → SFits w32 errno → not (eqb (of_z w32 errno) 4) ≡ not (interruption errno)
+bits_interruption (pos n) f = refl
+bits_interruption (negsuc n) f = ap not (ne_eqb (4294967296 - suc n) 4 (λ e. omega (arith, f.sfits)))
 
 -- A read has brought as many bytes as it answered, since it answers no more than it had room for.
 brought-most : (got : Result ℕ Error) (part : List ℕ) → ReadsAtMost got part → brought got ≤ length part

@@ -29,7 +29,7 @@ clash n t u h st e = true≢false (sym (is-hex n h) ∙ subst Stops e st)
 
 -- Bytes.
 
-bytes_append : (k j : List ℕ) → Bytes k → Bytes j → Bytes (k ++ j)
+pub bytes_append : (k j : List ℕ) → Bytes k → Bytes j → Bytes (k ++ j)
 bytes_append [] j h g = g
 bytes_append (b ∷ k) j h g = (h.0, bytes_append k j h.1 g)
 

@@ -15,13 +15,13 @@ unfolding weight
 weight_power zero = refl
 weight_power (suc m) = let e : 8 * suc m ≡ 8 + 8 * m = omega arith in rw (e, pow-add 2 8 (8 * m), weight_power m)
 
-pack_nil : (m : ℕ) → pack m [] ≡ 0
+pub pack_nil : (m : ℕ) → pack m [] ≡ 0
 unfolding pack
 pack_nil zero = refl
 pack_nil (suc m) = refl
 
 -- what follows the first m bytes is not looked at
-pack_front : (m : ℕ) (k j : List ℕ) → m ≤ length k → pack m (k ++ j) ≡ pack m k
+pub pack_front : (m : ℕ) (k j : List ℕ) → m ≤ length k → pack m (k ++ j) ≡ pack m k
 unfolding pack
 pack_front zero k j h = refl
 pack_front (suc m) [] j h = absurd (omega arith)

@@ -22,7 +22,6 @@ use Rattle.message.specs.declared.Way.{Way}
 use Rattle.tables.specs.Holding.{Holds, within_tables, holds_within, four}
 use Rattle.tables.specs.Once.{valid_rows}
 use Rattle.tables.specs.declared.Counts.{Counts}
-use Rattle.keeping.specs.declared.Document as K
 use Rattle.finder.specs.Follows.{Followed}
 use Rattle.listings.specs.Lists.{Answers, ListsKeys}
 use Rattle.reads.specs.Asks.{HoldsKeys, HoldsValues, Asks, KeysAsked, ValuesAsked, ElementAsked}
@@ -75,66 +74,66 @@ module _ {A : Type 0} (Valid : A → Type 0) (text : A → List ℕ) (look : A �
 
 -- Memory that holds a document.
 
-pub keys-room : (d : K.Document) (D : Document) → HoldsKeys d D → within_tables d.counts ≡ true
-keys-room d D H = holds_within H.3.rows
+pub keys-room : {h k : List ℕ} {c : Counts} (D : Document) → HoldsKeys h k c D → within_tables c ≡ true
+keys-room D H = holds_within H.3.rows
 
-pub values-room : (d : K.Document) (D : Document) → HoldsValues d D → within_tables d.counts ≡ true
-values-room d D H = holds_within H.2.rows
+pub values-room : {h k v : List ℕ} {c : Counts} (D : Document) → HoldsValues h k v c D → within_tables c ≡ true
+values-room D H = holds_within H.2.rows
 
 -- The three reads.
 
-module _ (d : K.Document) (bytes before : List ℕ) (answer : Reading) (after : List ℕ) (room : within_tables d.counts ≡ true)
+module _ (h k : List ℕ) (c : Counts) (bytes before : List ℕ) (answer : Reading) (after : List ℕ) (room : within_tables c ≡ true)
     {r : Option Way} (way : Way) (is : r ≡ Some way) where
   -- the keys of the root
   pub root_asked : ReadsKeysWay bytes r → way.n ≡ 0
-      → ListsKeys d.tables.heads d.tables.keys d.counts.rows 0 0 before answer after → KeysAsked d bytes before answer after
+      → ListsKeys h k c.rows 0 0 before answer after → KeysAsked h k c bytes before answer after
   unfolding keys
-  root_asked R none L = good_way _ _ _ _ d.counts bytes before room answer after L.stays way R is go
+  root_asked R none L = good_way _ _ _ _ c bytes before room answer after L.stays way R is go
     where
-      go : (w : KeysWay) → ValidKeysWay w → P.MeansKeys way w → (D : Document) → HoldsKeys d D → Answers (keys w D) before answer after
+      go : (w : KeysWay) → ValidKeysWay w → P.MeansKeys way w → (D : Document) → HoldsKeys h k c D → Answers (keys w D) before answer after
       go (of_place w) valid means D H = absurd (let z : ◌≡◌ {A = ℕ} _ _ = sym none ∙ means.count in omega arith)
       go of_root valid means D H = L.lists (root_place D) (record {
         marks = H.0;
         values = H.1;
-        counts = d.counts;
+        counts = c;
         ahead = [];
         later = [];
-        holds = subst (Holds (four d.tables.heads d.tables.keys H.0 H.1) d.counts) (root_rows D) H.3.rows;
+        holds = subst (Holds (four h k H.0 H.1) c) (root_rows D) H.3.rows;
         counted = refl;
         here = refl;
         ends = tt;
       })
 
-  module _ (found : Followed) (reaches : Reaches d.tables.heads d.tables.keys d.counts.rows way found) where
+  module _ (found : Followed) (reaches : Reaches h k c.rows way found) where
     -- the place that the way leads to
     place_found : (Held : List Sheet.Row → Type 0) (find : Place → Finding) → Gives Held way.n find found before answer after
-        → (m v : List ℕ) (D : Document) → Holds (four d.tables.heads d.tables.keys m v) d.counts (rows_of D) → Held (rows_of D)
+        → (m v : List ℕ) (D : Document) → Holds (four h k m v) c (rows_of D) → Held (rows_of D)
         → (w : PlaceWay) → ValidPlaceWay w → MeansPlace way w → Answers (at_place find (seek w D)) before answer after
     place_found Held find G m v D H held w valid means =
-        G.gives (rows_of D) (seek w D) held (reaches m v d.counts D w H refl means valid)
+        G.gives (rows_of D) (seek w D) held (reaches m v c D w H refl means valid)
 
     pub keys-asked : ReadsKeysWay bytes r → (way.n ≡ 0 → ⊥)
-        → GivesKeys d.tables.heads d.tables.keys d.counts.rows found way.n before answer after → KeysAsked d bytes before answer after
+        → GivesKeys h k c.rows found way.n before answer after → KeysAsked h k c bytes before answer after
     unfolding keys
-    keys-asked R some G = good_way _ _ _ _ d.counts bytes before room answer after G.stays way R is go
+    keys-asked R some G = good_way _ _ _ _ c bytes before room answer after G.stays way R is go
       where
-        go : (w : KeysWay) → ValidKeysWay w → P.MeansKeys way w → (D : Document) → HoldsKeys d D → Answers (keys w D) before answer after
+        go : (w : KeysWay) → ValidKeysWay w → P.MeansKeys way w → (D : Document) → HoldsKeys h k c D → Answers (keys w D) before answer after
         go of_root valid means D H = absurd (some means.1)
         go (of_place w) valid means D H =
-            place_found _ _ G H.0 H.1 D H.3.rows (H.0, H.1, d.counts, H.3.rows, refl) w valid means
+            place_found _ _ G H.0 H.1 D H.3.rows (H.0, H.1, c, H.3.rows, refl) w valid means
 
-    pub values-asked : ReadsPlaceWay bytes r → GivesValues d.tables.heads d.tables.values found before answer after
-        → ValuesAsked d bytes before answer after
+    pub values-asked : (v : List ℕ) → ReadsPlaceWay bytes r → GivesValues h v found before answer after
+        → ValuesAsked h k v c bytes before answer after
     unfolding values
-    values-asked R G =
-        good_way _ _ _ _ d.counts bytes before room answer after (G way.n).stays way R is
-        (λ w valid means D H. place_found _ _ (G way.n) H.0 d.tables.values D H.2.rows
-        (d.tables.keys, H.0, d.counts, H.2.rows, valid_rows D H.2.sound) w valid means)
+    values-asked v R G =
+        good_way _ _ _ _ c bytes before room answer after (G way.n).stays way R is
+        (λ w valid means D H. place_found _ _ (G way.n) H.0 v D H.2.rows
+        (k, H.0, c, H.2.rows, valid_rows D H.2.sound) w valid means)
 
     pub element_asked : (index : ℕ) → ReadsElementWay bytes r
-        → GivesElement d.tables.heads d.tables.keys d.counts.rows found way.n index before answer after
-        → ElementAsked d index bytes before answer after
+        → GivesElement h k c.rows found way.n index before answer after
+        → ElementAsked h k c index bytes before answer after
     unfolding nth_element
     element_asked index R G =
-        good_way _ _ _ _ d.counts bytes before room answer after G.stays way R is
-        (λ w valid means D H. place_found _ _ G H.0 H.1 D H.3.rows (H.0, H.1, d.counts, H.3.rows, refl) w valid means)
+        good_way _ _ _ _ c bytes before room answer after G.stays way R is
+        (λ w valid means D H. place_found _ _ G H.0 H.1 D H.3.rows (H.0, H.1, c, H.3.rows, refl) w valid means)

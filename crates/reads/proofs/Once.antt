@@ -10,20 +10,19 @@ use Rattle.meaning.specs.Answers.{Refusal, Reading, reading_answer}
 use Rattle.theorems.specs.Determined as T
 use Rattle.tables.specs.Holding.{within_tables}
 use Rattle.tables.specs.declared.Counts.{Counts}
-use Rattle.keeping.specs.declared.Document as K
 use Rattle.reads.specs.Asks.{HoldsKeys, HoldsValues, Asks, KeysAsked, ValuesAsked, ElementAsked}
 
-module _ (d : K.Document) {bytes before : List ℕ} {a b : Reading} {x y : List ℕ} where
-  pub keys_once : KeysAsked d bytes before a x → KeysAsked d bytes before b y → (D : Document) → HoldsKeys d D
+module _ {h k : List ℕ} {c : Counts} {bytes before : List ℕ} {a b : Reading} {x y : List ℕ} where
+  pub keys_once : KeysAsked h k c bytes before a x → KeysAsked h k c bytes before b y → (D : Document) → HoldsKeys h k c D
       → (a ≡ b) × (x ≡ y)
   keys_once p q D H = T.keys_once D bytes before a b x y (p.reads D H) (q.reads D H)
 
-  pub values_once : ValuesAsked d bytes before a x → ValuesAsked d bytes before b y → (D : Document)
-      → HoldsValues d D → (a ≡ b) × (x ≡ y)
+  pub values_once : {v : List ℕ} → ValuesAsked h k v c bytes before a x → ValuesAsked h k v c bytes before b y → (D : Document)
+      → HoldsValues h k v c D → (a ≡ b) × (x ≡ y)
   values_once p q D H = T.values_once D bytes before a b x y (p.reads D H) (q.reads D H)
 
-  pub element_once : (index : ℕ) → ElementAsked d index bytes before a x → ElementAsked d index bytes before b y → (D : Document)
-      → HoldsKeys d D → (a ≡ b) × (x ≡ y)
+  pub element_once : (index : ℕ) → ElementAsked h k c index bytes before a x → ElementAsked h k c index bytes before b y → (D : Document)
+      → HoldsKeys h k c D → (a ≡ b) × (x ≡ y)
   element_once index p q D H = T.element_once index D bytes before a b x y (p.reads D H) (q.reads D H)
 
 -- of counts that have no room in the tables

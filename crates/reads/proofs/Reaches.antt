@@ -2,7 +2,7 @@
 -- Assumes nothing.
 use Prim.Native.Nat.{ℕ, ◌*◌, ◌<◌}
 use native.Mathlib.Omega.{arith}
-use mathlib.Core.Path.{◌≡◌, sym, ap₂, ◌∙◌, subst}
+use mathlib.Core.Path.{◌≡◌, sym, ap, ap₂, ◌∙◌, subst}
 use mathlib.Core.List.{List, ◌++◌}
 use Rattle.std.specs.Prelude.{Err}
 use lib.ListN.{length, take}
@@ -11,7 +11,7 @@ use Rattle.meaning.specs.Sheet.{rows_of}
 use Rattle.readers.specs.Words.{key_words}
 use Rattle.message.specs.Means.{trail_words}
 use Rattle.message.specs.declared.Way.{Way}
-use Rattle.message.proofs.Padded.{take-pad}
+use Rattle.message.proofs.Padded.{pad_long, take-pad}
 use Rattle.finder.specs.Follows.{Followed, Leads, Follows}
 use Rattle.finder.specs.declared.Absence.TheVariants.{Missing}
 use Rattle.reads.specs.Gives.{Reaches}
@@ -26,6 +26,11 @@ module _ (h k : List ℕ) (rows : ℕ) (way : Way) where
   -- no place's way has so many keys
   pub reaches_none : 8 < way.n → Reaches h k rows way (Err Missing)
   reaches_none l m v c D w H q means valid = absurd (omega (arith, means.count, valid.reach))
+
+  -- no place's way has more keys than there are words for
+  pub reaches_cut : length way.keys < 3 * way.n → Reaches h k rows way (Err Missing)
+  reaches_cut l m v c D w H q means valid =
+      absurd (omega (arith, means.count, valid.reach, ap length means.keys, pad_long 24 (key_words w.top ++ trail_words w.trail)))
 
   pub reaches : (r : Followed) → Follows h k rows (take (3 * way.n) way.keys) r → Reaches h k rows way r
   reaches r F m v c D w H q means valid =

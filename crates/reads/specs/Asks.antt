@@ -12,15 +12,13 @@ use Rattle.meaning.specs.declared.ReadError.TheVariants.{NotThere}
 use Rattle.tables.specs.Holding.{within_tables, four}
 use Rattle.tables.specs.declared.Counts.{Counts}
 use Rattle.keeping.specs.Storing.{Stores}
-use Rattle.keeping.specs.declared.Document as K
 
--- memory that holds the document with these heads and keys, and with any marks and values; and with these values
-abbrev pub HoldsKeys : K.Document → Document → Type 0
-HoldsKeys d D =
-    (m : List ℕ) × (v : List ℕ) × (seen : List ℕ) × Stores (four d.tables.heads d.tables.keys m v) d.counts seen D
+-- memory that holds the document, with these heads and keys; and with these values
+abbrev pub HoldsKeys : List ℕ → List ℕ → Counts → Document → Type 0
+HoldsKeys h k c D = (m : List ℕ) × (v : List ℕ) × (seen : List ℕ) × Stores (four h k m v) c seen D
 
-abbrev pub HoldsValues : K.Document → Document → Type 0
-HoldsValues d D = (m : List ℕ) × (seen : List ℕ) × Stores (four d.tables.heads d.tables.keys m d.tables.values) d.counts seen D
+abbrev pub HoldsValues : List ℕ → List ℕ → List ℕ → Counts → Document → Type 0
+HoldsValues h k v c D = (m : List ℕ) × (seen : List ℕ) × Stores (four h k m v) c seen D
 
 pub record Asks {A : Type 0} (Valid : A → Type 0) (text : A → List ℕ) (look : A → Document → Finding) (Held : Document → Type 0)
     (c : Counts) (bytes before : List ℕ) (answer : Reading) (after : List ℕ) : Type 0 where
@@ -28,11 +26,11 @@ pub record Asks {A : Type 0} (Valid : A → Type 0) (text : A → List ℕ) (loo
   pub stays : Refusal (reading_answer answer) → after ≡ before
   pub beyond : within_tables c ≡ false → answer ≡ Err NotThere
 
-abbrev pub KeysAsked : K.Document → List ℕ → List ℕ → Reading → List ℕ → Type 0
-KeysAsked d = Asks ValidKeysWay keys_way_text keys (HoldsKeys d) d.counts
+abbrev pub KeysAsked : List ℕ → List ℕ → Counts → List ℕ → List ℕ → Reading → List ℕ → Type 0
+KeysAsked h k c = Asks ValidKeysWay keys_way_text keys (HoldsKeys h k c) c
 
-abbrev pub ValuesAsked : K.Document → List ℕ → List ℕ → Reading → List ℕ → Type 0
-ValuesAsked d = Asks ValidPlaceWay place_way_text values (HoldsValues d) d.counts
+abbrev pub ValuesAsked : List ℕ → List ℕ → List ℕ → Counts → List ℕ → List ℕ → Reading → List ℕ → Type 0
+ValuesAsked h k v c = Asks ValidPlaceWay place_way_text values (HoldsValues h k v c) c
 
-abbrev pub ElementAsked : K.Document → ℕ → List ℕ → List ℕ → Reading → List ℕ → Type 0
-ElementAsked d index = Asks ValidPlaceWay element_way_text (nth_element index) (HoldsKeys d) d.counts
+abbrev pub ElementAsked : List ℕ → List ℕ → Counts → ℕ → List ℕ → List ℕ → Reading → List ℕ → Type 0
+ElementAsked h k c index = Asks ValidPlaceWay element_way_text (nth_element index) (HoldsKeys h k c) c

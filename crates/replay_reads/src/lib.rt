@@ -26,17 +26,18 @@ fn say_reading(name: &[u8], r: Reading, buf: &[u8]) {
 
 // Reads into a lent buffer that is full of the fill byte.
 fn read_into(d: &Document, ask: Ask, way: &[u8], buf: &mut [u8]) {
+    let t = &d.tables;
     match ask {
         Ask::Keys => {
-            let r = reads::keys(d, way, buf);
+            let r = reads::keys(&t.heads, &t.keys, d.counts, way, buf);
             say_reading(b"keys ", r, buf);
         }
         Ask::Values => {
-            let r = reads::values(d, way, buf);
+            let r = reads::values(&t.heads, &t.keys, &t.values, d.counts, way, buf);
             say_reading(b"values ", r, buf);
         }
         Ask::Element(index) => {
-            let r = reads::element(d, way, index, buf);
+            let r = reads::element(&t.heads, &t.keys, d.counts, way, index, buf);
             say_reading(b"element ", r, buf);
         }
     }

@@ -2,10 +2,13 @@
 -- Assumes nothing.
 use Prim.Native.Nat.{ℕ, ◌+◌, ◌-◌, ◌≤◌, ◌<◌}
 use native.Mathlib.Omega.{arith}
-use mathlib.Core.Path.{◌≡◌, sym, ap, ◌∙◌, subst}
-use mathlib.Core.List.{List, ◌++◌, append_assoc}
+use mathlib.Core.Path.{◌≡◌, refl, sym, ap, ◌∙◌, subst}
+use mathlib.Core.Bool.{Bool, true, false, cond, ◌&&◌}
+use mathlib.Core.List.{List, [], ◌++◌, append_assoc}
+use lib.Dec.{leb}
 use lib.ListN.{length, take, drop, take-append-drop, length-append, length-drop}
 use lib.Seq.{take_at, drop_at, drop-drop, length-take-le}
+use borrow.Author.Tests.{lt-leb}
 use Rattle.std.proofs.Common.{Option, Some, None}
 use Rattle.meaning.specs.Ascii.{ascii}
 use Rattle.decimal.specs.Take.{Layout, Took, Never, fixed}
@@ -91,3 +94,17 @@ module _ (n : ℕ) (s : List ℕ) (a : ℕ) where
           let p : take n (drop from s) ≡ part_of from (from + n) s =
           ap (λ k. take k (drop from s)) i ∙ sym (part_is from (from + n) s (omega arith) (omega (arith, last))) in
           record { took = subst (λ block. Took (blocks n) s a block next) p block_took; order = omega arith; behind = last.1 }
+
+-- Parts.
+
+-- nothing stands between two places that have crossed
+pub part_crossed : (from to : ℕ) (s : List ℕ) → to < from → [] ≡ part_of from to s
+part_crossed from to s h = rw (lt-leb from to h)
+
+-- nothing is told up to a place beyond the end
+pub part_beyond : (from to : ℕ) (s : List ℕ) → length s < to → [] ≡ part_of from to s
+part_beyond from to s h = rw (lt-leb to (length s) h) (go (leb from to) (take (to - from) (drop from s)))
+  where
+    go : (b : Bool) (part : List ℕ) → [] ≡ cond (b && false) part []
+    go true part = refl
+    go false part = refl

@@ -9,8 +9,15 @@ use Rattle.theorems.specs.Settling.{left, rid, next}
 use Rattle.judging.specs.Judging.{Judgement, verdict}
 use Rattle.keeping.specs.Keeping.{Keeps}
 use Rattle.keeping.specs.declared.Memory.{Memory}
+use Rattle.tables.specs.declared.Counts.{Counts}
+use Rattle.meaning.specs.declared.Counters.{Counters}
+use Rattle.apply.specs.Applying.{held}
 use Rattle.settling.specs.declared.Rounded.{Rounded}
 use Rattle.settling.specs.declared.Settled.{Settled}
+
+-- a terminal's memory that is lent in parts
+abbrev pub memory : List ℕ → List ℕ → List ℕ → List ℕ → Counts → Counters → List ℕ → ℕ → Memory
+memory h k m v c seen t n = record { document = held h k m v c seen; waiting = t; count = n }
 
 -- the verdict on the operation at i
 abbrev pub Looks : Memory → ℕ → Option Judgement → Type 0

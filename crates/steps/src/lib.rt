@@ -89,7 +89,7 @@ pub fn mark_row(
     if n >= MARKS_ROOM || from > gap || n > gap - from {
         return WithGap { counts: c, gap };
     }
-    let k = rank_rows::<1>(marks, from, n, id);
+    let k = rank_rows(marks, from, n, 1, id);
     let at = from + k;
     open(marks, gap, at, g);
     marks[at + g - 1] = id;

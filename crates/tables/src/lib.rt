@@ -33,6 +33,9 @@ pub const VALUES_ROOM: usize = 257;
 // The words of a value.
 pub const VALUE_WORDS: usize = 6;
 
+// A search goes over so many rows at most: the numbers of its places have room then.
+const SEARCHED: usize = 1024;
+
 // The deepest depth of a place.
 pub const DEEPEST: u64 = 8;
 
@@ -291,18 +294,18 @@ pub fn is_sought(w: Search, h: Head, k: Key) -> bool
 
 // Where the search from a place on stops: before the first row that isn't gone over. The loop stays a `while`: its place moves on by what a
 // row's head counts, so no range or chain gives its steps.
-fn seek(t: &Tables, rows: usize, from: Position, w: Search) -> Position
-    requires { Searches t.now.heads t.now.keys rows from }
-    ensures { result ≡ sought w t.now.heads t.now.keys rows from }
+pub fn seek(heads: &[u64], keys: &[u64], rows: usize, from: Position, w: Search) -> Position
+    requires { Searches heads.now keys.now rows from }
+    ensures { result ≡ sought w heads.now keys.now rows from }
 {
     let mut at = from;
     while at.row < rows {
         let row = at.row;
-        let h = head_in(t.heads[row]);
+        let h = head_in(heads[row]);
         let k = Key {
-            hi: t.keys[3 * row],
-            lo: t.keys[3 * row + 1],
-            len: t.keys[3 * row + 2],
+            hi: keys[3 * row],
+            lo: keys[3 * row + 1],
+            len: keys[3 * row + 2],
         };
         if !goes_over(w, h, k) {
             return at;
@@ -317,29 +320,35 @@ fn seek(t: &Tables, rows: usize, from: Position, w: Search) -> Position
 }
 
 // Whether a search may begin there: the rows are in the tables, and the place is one of them or behind the last.
-fn may_begin(t: &Tables, rows: usize, from: Position) -> bool
-    ensures { holds_if result (Searches t.now.heads t.now.keys rows from) }
+fn may_begin(heads: &[u64], keys: &[u64], rows: usize, from: Position) -> bool
+    ensures { holds_if result (Searches heads.now keys.now rows from) }
 {
-    rows <= ROWS_ROOM
+    rows <= SEARCHED
+        && rows <= heads.len()
+        && 3 * rows <= keys.len()
         && from.row <= rows
         && from.mark <= 2048 * from.row
         && from.value <= 512 * from.row
 }
 
 // Where the search from a place on stops, in tables that hold rows; in others anywhere.
-pub fn find(t: &Tables, rows: usize, from: Position, w: Search) -> Position
-    ensures { FindsIn t.now.heads t.now.keys rows from w result }
+pub fn find(heads: &[u64], keys: &[u64], rows: usize, from: Position, w: Search) -> Position
+    ensures { FindsIn heads.now keys.now rows from w result }
 {
-    if may_begin(t, rows, from) {
-        seek(t, rows, from, w)
+    if may_begin(heads, keys, rows, from) {
+        seek(heads, keys, rows, from, w)
     } else {
         from
     }
 }
 
 // Whether the row at a place is the one that is looked for.
-pub fn is_at(t: &Tables, rows: usize, at: usize, w: Search) -> bool
-    ensures { Knows t.now.heads t.now.keys rows at w result }
+pub fn is_at(heads: &[u64], keys: &[u64], rows: usize, at: usize, w: Search) -> bool
+    ensures { Knows heads.now keys.now rows at w result }
 {
-    at < rows && at < ROWS_ROOM && is_sought(w, head_at(&t.heads, at), key_at(&t.keys, at))
+    at < rows
+        && at < SEARCHED
+        && at < heads.len()
+        && 3 * at + 2 < keys.len()
+        && is_sought(w, head_at(heads, at), key_at(keys, at))
 }

@@ -3,13 +3,14 @@
 #![tactic(auto)]
 
 ghost use Rattle.std.specs.Prelude.{◌≡◌};
+ghost use Rattle.apply.specs.Applying.{Applies};
 ghost use Rattle.terminal.specs.Promises.{Empties, Awaits, Receiving};
 
-use judging::Readiness;
+use judging::{Judgement, Readiness};
 use keeping::{Document, Memory};
 use meaning::{Counters, Receipt, ReceiveError, Received};
 use message::Operation;
-use settling::settle;
+use settling::settle_in;
 use tables::{Counts, HEADS, KEYS, MARKS, Tables, VALUES};
 use waiting::WAITING;
 
@@ -70,20 +71,36 @@ fn wait(m: &mut Memory, op: Operation) -> Receipt
     Ok(Received::Waiting)
 }
 
+// Judges an operation on a document in memory, and takes it if it may be.
+fn apply_in(d: &mut Document, op: Operation) -> Judgement
+    ensures { Applies d.old op result d.new }
+{
+    let t = &mut d.tables;
+    apply::apply(
+        &mut t.heads,
+        &mut t.keys,
+        &mut t.marks,
+        &mut t.values,
+        &mut d.counts,
+        &mut d.seen,
+        op,
+    )
+}
+
 // Receives a message: it is applied and the waiting ones are settled; or it waits; or it is refused, and not one word has changed. Memory
 // that counts more than has room in its tables is answered 10.
 #[tactic(auto, using(crate::proofs::Receiving::receives_beyond))]
 pub fn receive(m: &mut Memory, bytes: &[u8]) -> Receipt
     ensures { Receiving m.old bytes.now result m.new }
 {
-    if !keeping::within(m) {
+    if !keeping::within(m.document.counts, m.count) {
         return Err(ReceiveError::NoRoom);
     }
     let op = message::take_message(bytes).ok_or(ReceiveError::Layout)?;
-    let readiness = apply::apply(&mut m.document, op)?;
+    let readiness = apply_in(&mut m.document, op)?;
     match readiness {
         Readiness::Ready => {
-            let settled = settle(m);
+            let settled = settle_in(m);
             Ok(Received::Applied {
                 applied: settled.applied + 1,
                 dropped: settled.dropped,

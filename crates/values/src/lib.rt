@@ -77,7 +77,7 @@ fn add_value(heads: &mut [u64], values: &mut [u64], c: Counts, s: Position, v: V
         return c;
     }
     let from = VALUE_WORDS * first;
-    let k = rank_rows::<VALUE_WORDS>(values, from, n, v.id);
+    let k = rank_rows(values, from, n, VALUE_WORDS, v.id);
     let at = from + k * VALUE_WORDS;
     open(values, VALUE_WORDS * live, at, VALUE_WORDS);
     write_value(values, at, v);

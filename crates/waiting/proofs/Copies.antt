@@ -11,7 +11,7 @@ use Rattle.words.proofs.Over.{run_length}
 use Rattle.words.proofs.Moves.{run_at}
 use Rattle.waiting.specs.Rows.{counters}
 
-counters-length : (xs : List ℕ) → length (counters xs) ≡ length xs
+pub counters-length : (xs : List ℕ) → length (counters xs) ≡ length xs
 unfolding counters
 counters-length [] = refl
 counters-length (x ∷ xs) = ap suc (counters-length xs)

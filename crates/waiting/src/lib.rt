@@ -60,7 +60,7 @@ pub fn waits(t: &[u64], n: usize, id: u64) -> bool
     if t.len() < WAITING || n > MOST {
         return false;
     }
-    let k = rank_rows::<ROW>(t, 0, n, id);
+    let k = rank_rows(t, 0, n, ROW, id);
     k < n && id == t[ROW * k]
 }
 
@@ -71,7 +71,7 @@ pub fn put(t: &mut [u64], n: usize, op: Operation) -> Option<usize>
     if t.len() < WAITING || n >= MOST {
         return None;
     }
-    let at = ROW * rank_rows::<ROW>(t, 0, n, op.act.id);
+    let at = ROW * rank_rows(t, 0, n, ROW, op.act.id);
     open(t, ROW * n, at, ROW);
     write_row(t, at, op);
     Some(n + 1)

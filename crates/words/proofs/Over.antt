@@ -9,11 +9,16 @@ use native.Mathlib.Nat.{add-zero}
 use native.Mathlib.Omega.{arith}
 use lib.ListN.{length, take, drop, get_or, set, replicate}
 use lib.ListN.{length-append, length-take, length-drop, length-replicate, take-append-drop, get_or-append}
-use lib.Seq.{length-take-le, take_at, drop_at, take-append-le, take-take, drop-drop, take-add, get_or-take, get_or-drop}
+use lib.Seq.{drop-cons, length-take-le, take_at, drop_at, take-append-le, take-take, drop-drop, take-add, get_or-take, get_or-drop}
 use lib.Seq.{drop-append-add, get_or-append-add, set_split}
 use Rattle.words.specs.Words.{run, over_at, opened, closed, inserted, shrunk}
 
 module _ {A : Type 0} where
+  -- a run of no words
+  pub run_none : (from : ℕ) (t : List A) → run from 0 t ≡ []
+  unfolding run
+  run_none from t = refl
+
   pub run_length : (from n : ℕ) (t : List A) → from + n ≤ length t → length (run from n t) ≡ n
   unfolding run
   run_length from n t h = simp (length-take, length-drop) (omega arith)
@@ -21,6 +26,19 @@ module _ {A : Type 0} where
   pub run_add : (from n m : ℕ) (t : List A) → run from (n + m) t ≡ run from n t ++ run (from + n) m t
   unfolding run
   run_add from n m t = rw (take-add n m (drop from t), drop-drop n from t)
+
+  -- a run of one word
+  pub run-one : (from : ℕ) (t : List A) (z : A) → from < length t → run from 1 t ≡ get_or t from z ∷ []
+  unfolding run
+  run-one from t z h = rw (drop-cons t from z h)
+
+  -- a run with one word more behind it
+  pub run_more : (from n : ℕ) (t : List A) (z : A) → from + n < length t → run from (n + 1) t ≡ run from n t ++ (get_or t (from + n) z ∷ [])
+  run_more from n t z h = rw (run_add from n 1 t, run-one (from + n) t z h)
+
+  -- a run with one word more before it
+  pub run_cons : (from n : ℕ) (t : List A) (z : A) → from < length t → run from (1 + n) t ≡ get_or t from z ∷ run (from + 1) n t
+  run_cons from n t z h = rw (run_add from 1 n t, run-one from t z h)
 
   pub over_none : (a : ℕ) (t : List A) → over_at a [] t ≡ t
   unfolding over_at
@@ -84,6 +102,12 @@ module _ {A : Type 0} where
         let e : a + length X + length Y ≡ a + length (X ++ Y) = simp length-append (omega arith) in
         rw (over-take, over-drop (a + length X + length Y) (omega arith), e) (simp append_assoc)
 
+    -- one word more stored behind those laid over
+    pub over_push : (x : A) → a + length X < length t → set (over_at a X t) (a + length X) x ≡ over_at a (X ++ (x ∷ [])) t
+    over_push x k =
+        let l = over-length (omega arith) in
+        over-one (a + length X) (over_at a X t) x (omega arith) ∙ over-then (x ∷ [])
+
     -- words laid right before others
     pub over_under : (Y : List A) → a + length X ≤ length t → over_at a X (over_at (a + length X) Y t) ≡ over_at a (X ++ Y) t
     unfolding over_at
@@ -98,6 +122,13 @@ module _ {A : Type 0} where
   -- What the moves come to.
 
   module _ (live at : ℕ) (t : List A) (h : at ≤ live) where
+    -- opened behind the last live word, where nothing moves
+    pub opened_none : (n : ℕ) → opened live live n t ≡ t
+    unfolding opened
+    opened_none n =
+        let e : live - live ≡ 0 = omega arith in
+        rw (e, run_none live t) (over_none (live + n) t)
+
     pub opened_length : (n : ℕ) → live + n ≤ length t → length (opened live at n t) ≡ length t
     unfolding opened
     opened_length n k =
@@ -108,6 +139,14 @@ module _ {A : Type 0} where
     pub open_write : (new : List A) → live + length new ≤ length t → over_at at new (opened live at (length new) t) ≡ inserted live at new t
     unfolding opened inserted
     open_write new k = over_under at new t (omega arith) (run at (live - at) t) (omega arith)
+
+    -- what opening leaves, written out
+    pub opened_is : (n : ℕ) → live + n ≤ length t → opened live at n t ≡ take (at + n) t ++ (run at (live - at) t ++ drop (live + n) t)
+    unfolding opened over_at
+    opened_is n k =
+        let m = run_length at (live - at) t (omega arith) in
+        let e : at + n + length (run at (live - at) t) ≡ live + n = omega arith in
+        rw e
 
   pub closed_is : (z : A) (live from to : ℕ) (t : List A) → to ≤ from → from ≤ live → live ≤ length t
       → closed z live from to t ≡ take to t ++ (run from (live - from) t ++ (replicate (from - to) z ++ drop live t))

@@ -79,13 +79,14 @@ pub fn covered_rows<const W: usize>(t: &[u64], from: usize, n: usize, d: Counter
     r
 }
 
-// How many of the n rows of W words from `from` on have a smaller id, up to the first that hasn't. No chain, as above.
-pub fn rank_rows<const W: usize>(t: &[u64], from: usize, n: usize, id: u64) -> usize
-    requires { (0 < W) × (from + n * W ≤ length t.now) }
-    ensures { Ranked n (rank_rows W id n (drop from t.now)) result }
+// How many of the n rows of w words from `from` on have a smaller id, up to the first that hasn't. No chain, as above; w may be known only
+// when it runs.
+pub fn rank_rows(t: &[u64], from: usize, n: usize, w: usize, id: u64) -> usize
+    requires { (0 < w) × (from + n * w ≤ length t.now) }
+    ensures { Ranked n (rank_rows w id n (drop from t.now)) result }
 {
     for i in 0..n {
-        if t[from + i * W] >= id {
+        if t[from + i * w] >= id {
             return i;
         }
     }

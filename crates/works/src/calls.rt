@@ -89,10 +89,22 @@ fn make_call(text: &[u8], call: Call, m: &mut Memory, buf: &mut [u8]) -> usize {
             Ok(made) => made.written,
             Err(_) => 0,
         },
-        Call::Keys(l) => reads::keys(&m.document, l.block.bytes(text), buf).unwrap_or(0),
-        Call::Values(l) => reads::values(&m.document, l.block.bytes(text), buf).unwrap_or(0),
+        Call::Keys(l) => {
+            let d = &m.document;
+            let t = &d.tables;
+            reads::keys(&t.heads, &t.keys, d.counts, l.block.bytes(text), buf).unwrap_or(0)
+        }
+        Call::Values(l) => {
+            let d = &m.document;
+            let t = &d.tables;
+            let way = l.block.bytes(text);
+            reads::values(&t.heads, &t.keys, &t.values, d.counts, way, buf).unwrap_or(0)
+        }
         Call::Element(index, l) => {
-            reads::element(&m.document, l.block.bytes(text), index, buf).unwrap_or(0)
+            let d = &m.document;
+            let t = &d.tables;
+            let way = l.block.bytes(text);
+            reads::element(&t.heads, &t.keys, d.counts, way, index, buf).unwrap_or(0)
         }
         Call::Save { .. } => {
             let d = &m.document;

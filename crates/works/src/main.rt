@@ -7,9 +7,9 @@
 mod calls;
 
 use calls::{Call, MOST, find, find_all, make_all};
-use keeping::{Document, Memory};
+use keeping::Memory;
 use replay_text::{LONGEST_BUFFER, save_of, say_number};
-use tables::{Counts, Tables};
+use tables::Counts;
 
 // Where the script is read.
 const STDIN_FILENO: i32 = 0;
@@ -36,30 +36,31 @@ fn build(text: &[u8], m: &mut Memory) -> usize {
     at
 }
 
-// A copy of a terminal, field by field: a derived `clone` answers a Result, and `Copy` would let 49 KB be copied unseen.
-fn copy_of(m: &Memory) -> Memory {
-    let d = &m.document;
-    let tables = Tables {
-        heads: d.tables.heads,
-        keys: d.tables.keys,
-        marks: d.tables.marks,
-        values: d.tables.values,
-    };
-    Memory {
-        document: Document {
-            tables,
-            counts: d.counts,
-            seen: d.seen,
-        },
-        waiting: m.waiting,
-        count: m.count,
-    }
+// Lays a copy of a terminal over another, field by field: what a call answers by value is copied once more, and `Copy` would let 49 KB be
+// copied unseen.
+fn copy_to(m: &mut Memory, built: &Memory) {
+    let d = &mut m.document;
+    let b = &built.document;
+    d.tables.heads = b.tables.heads;
+    d.tables.keys = b.tables.keys;
+    d.tables.marks = b.tables.marks;
+    d.tables.values = b.tables.values;
+    d.counts = b.counts;
+    d.seen = b.seen;
+    m.waiting = built.waiting;
+    m.count = built.count;
 }
 
-// One turn with a copy of the terminal.
-fn turn(text: &[u8], calls: &[Option<Call>; MOST], built: &Memory, buf: &mut [u8]) -> Played {
-    let mut m = copy_of(built);
-    let written = make_all(text, calls, &mut m, buf);
+// One turn with a copy of the terminal, in memory that is there.
+fn turn(
+    text: &[u8],
+    calls: &[Option<Call>; MOST],
+    built: &Memory,
+    m: &mut Memory,
+    buf: &mut [u8],
+) -> Played {
+    copy_to(m, built);
+    let written = make_all(text, calls, m, buf);
     Played {
         counts: m.document.counts,
         waiting: m.count,
@@ -82,8 +83,9 @@ fn play(text: &[u8]) -> Played {
     let mut calls = [None; MOST];
     find_all(text, next, &mut calls);
     let mut buf = [0u8; LONGEST_BUFFER];
+    let mut copy = terminal::new();
     for _ in 0..count {
-        last = turn(text, &calls, &m, &mut buf);
+        last = turn(text, &calls, &m, &mut copy, &mut buf);
     }
     last
 }

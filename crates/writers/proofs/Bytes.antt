@@ -8,11 +8,22 @@ use mathlib.Core.Path.{◌≡◌, refl, sym, ap, ◌∙◌}
 use mathlib.Core.List.{List, [], ◌∷◌, ◌++◌, append_assoc}
 use lib.ListN.{length, get_or, set, length-append, length-set}
 use lib.Pow.{pow-add}
-use Rattle.meaning.specs.Ascii.{ascii}
+use borrow.Author.Tests.{lt-ltb, le-ltb}
+use Rattle.meaning.specs.Ascii.{ascii, byte}
 use Rattle.meaning.specs.Text.{hex_digit, hex}
 use Rattle.decimal.specs.Take.{Wrote}
 use Rattle.writers.specs.Words.{byte_of, bytes_of}
 use Rattle.writers.proofs.Over.{wrote_none, wrote_as, wrote_byte}
+
+-- the digits below ten
+pub digit_low : (n : ℕ) → n < 10 → byte "0" + n ≡ hex_digit n
+unfolding hex_digit
+digit_low n h = rw (lt-ltb n 10 h)
+
+-- the digits from ten on
+pub digit_high : (n : ℕ) → 10 ≤ n → byte "a" + (n - 10) ≡ hex_digit n
+unfolding hex_digit
+digit_high n h = rw (le-ltb n 10 h)
 
 pub digit_of_table : (n : ℕ) → n < 16 → get_or (ascii "0123456789abcdef") n 0 ≡ hex_digit n
 unfolding hex_digit
@@ -46,6 +57,11 @@ unfolding byte_of
 byte_shifted words i =
     let e : 56 - 8 * (i % 8) ≡ 8 * (7 - i % 8) = omega (arith, mod-lt i {m = 8} (omega arith)) in
     ap (λ p. get_or words (i / 8) 0 / p % 256) (ap (λ n. 2 ^ n) e ∙ pow_bytes (7 - i % 8))
+
+-- what a word holds at a place is a byte
+pub byte_small : (words : List ℕ) (i : ℕ) → byte_of words i < 256
+unfolding byte_of
+byte_small words i = mod-lt (get_or words (i / 8) 0 / 256 ^ (7 - i % 8)) {m = 256} (omega arith)
 
 pub hex-append : (xs ys : List ℕ) → hex (xs ++ ys) ≡ hex xs ++ hex ys
 unfolding hex

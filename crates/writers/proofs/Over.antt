@@ -74,7 +74,7 @@ module _ {whole before after : List ℕ} {n : ℕ} where
   pub all : Writing whole before [] after n → Wrote whole before after n
   all g = wrote_as (sym (append_none g.start) ∙ sym g.text) g.wrote
 
-  last-room : {u : List ℕ} → Writing whole before u after n → n + length u ≤ length after
+  pub last-room : {u : List ℕ} → Writing whole before u after n → n + length u ≤ length after
   last-room {u} g =
       let l = length-append g.start u in
       let e = ap length g.text in

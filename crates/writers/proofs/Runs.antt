@@ -15,7 +15,7 @@ use Rattle.writers.proofs.Over.{append_none, wrote_none, Writing, to_come, all, 
 
 -- Of n texts, from one on, the first i are counted or written, and the others are still to come from `from` on.
 module _ {S : Type 0} (piece : S → List ℕ) (on : S → S) (Has : S → ℕ → Type 0) where
-  more : (s : S) (n m : ℕ) → n ≡ suc m → texts piece on s n ≡ piece s ++ texts piece on (on s) m
+  pub more : (s : S) (n m : ℕ) → n ≡ suc m → texts piece on s n ≡ piece s ++ texts piece on (on s) m
   unfolding texts
   more s n m e = rw e
 

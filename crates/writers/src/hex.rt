@@ -15,6 +15,13 @@ pub struct Hex<const W: usize> {
     pub len: u64,
 }
 
+// The first `len` of the bytes that lent words hold, however many words these are.
+#[derive(Clone, Copy)]
+pub struct LentHex<'a> {
+    pub words: &'a [u64],
+    pub len: u64,
+}
+
 // The hex digits, lower case. A test of each digit in the place of this table made a key's writing 1.5 times as slow.
 static DIGITS: [u8; 16] = *b"0123456789abcdef";
 
@@ -37,6 +44,19 @@ fn byte_of(words: &[u64], i: usize) -> u8
     ((words[i / 8] >> shift) % 256) as u8
 }
 
+// Writes the first n of the bytes that words hold, by places: of what an adapter of `iter_mut` or `chunks_mut` writes no clause tells.
+fn put_bytes(buf: &mut [u8], words: &[u64], n: usize) -> usize
+    requires { (n ≤ 8 * length words.now) × (length (hex (bytes_of words.now n)) ≤ length buf.old) }
+    ensures { Wrote (hex (bytes_of words.now n)) buf.old buf.new result }
+{
+    for i in 0..n {
+        let b = byte_of(words, i);
+        buf[2 * i] = hex_digit(b / 16);
+        buf[2 * i + 1] = hex_digit(b % 16);
+    }
+    2 * n
+}
+
 impl<const W: usize> Text for Hex<W> {
     ghost text = { λ x. hex (bytes_of x.words x.len) };
 
@@ -49,14 +69,24 @@ impl<const W: usize> Text for Hex<W> {
         2 * (self.len as usize)
     }
 
-    // by places: of what an adapter of `iter_mut` or `chunks_mut` writes no clause tells
     fn put(&self, buf: &mut [u8]) -> usize {
-        let n = self.len as usize;
-        for i in 0..n {
-            let b = byte_of(&self.words, i);
-            buf[2 * i] = hex_digit(b / 16);
-            buf[2 * i + 1] = hex_digit(b % 16);
-        }
-        2 * n
+        put_bytes(buf, &self.words, self.len as usize)
+    }
+}
+
+impl<'a> Text for LentHex<'a> {
+    ghost text = { λ x. hex (bytes_of x.words.now x.len) };
+
+    ghost most = { λ x. 16 * length x.words.now };
+
+    ghost Valid = { λ x. x.len ≤ 8 * length x.words.now };
+
+    #[tactic(auto, using(crate::proofs::Bytes::size_hex))]
+    fn size(&self) -> usize {
+        2 * (self.len as usize)
+    }
+
+    fn put(&self, buf: &mut [u8]) -> usize {
+        put_bytes(buf, self.words, self.len as usize)
     }
 }

@@ -14,10 +14,10 @@ ghost use Rattle.writers.specs.Wrote.{WroteAt};
 ghost use Rattle.writers.specs.Sized.{Sized};
 ghost use Rattle.writers.specs.Texts.{maybe, maybe_most, MaybeValid};
 
-pub use hex::Hex;
+pub use hex::{Hex, LentHex};
 pub use many::{Many, Pieces};
 pub use numbers::{Decimal, Id};
-pub use plain::Plain;
+pub use plain::{Kind, Plain};
 
 pub trait Text {
     // What is written, of a valid thing, and a number that its bytes aren't more than.

@@ -1,5 +1,9 @@
 -- What an assign does at a row.
-use mathlib.Core.Path.{sym, ◌∙◌}
+use mathlib.Core.Path.{◌≡◌, sym, ◌∙◌}
+use borrow.Author.Tests.{tests}
+use Rattle.std.specs.Prelude.{Some}
+use Rattle.std.proofs.Common.{rules}
+use Rattle.deeds.specs.Deeds.{branch_of, given_in}
 use Rattle.act.proofs.Giving.{give_plain, give_branch}
 use Rattle.act.proofs.give.Goals as goal
 
@@ -11,5 +15,6 @@ returns-in_default c =
 
 pub returns : goal.returns
 returns c =
+    let is : branch_of (given_in c.args.o.deed) ≡ Some c.in-Some.side = rw c.given_in-g.ensures at (sym c.branch_of.ensures ∙ c.in-Some.is) in
     give_branch _ _ _ _ _ _ _ _ _ _ _ _ _ _ _ _ _ _ _ c.clear_block-a.ensures c.mark_row-b.ensures
-    c.flag_row.ensures (rw c.given_in-g.ensures at (sym c.branch_of.ensures ∙ c.in-Some.is))
+    c.flag_row.ensures (search (rules, tests, is))

@@ -3,4 +3,4 @@ use Rattle.apply.proofs.Carrying.{takes_at}
 use Rattle.apply.proofs.take_at.Goals as goal
 
 pub returns : goal.returns
-returns c = takes_at _ c.args.op _ _ _ _ c.carry_out-d.ensures c.raise-d.ensures
+returns c = takes_at _ c.args.op _ _ _ _ c.carry_out.ensures c.raise.ensures

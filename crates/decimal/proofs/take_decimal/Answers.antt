@@ -37,14 +37,14 @@ returns-then-max-v c =
     let digit = c.if-not-is_ascii_digit.ensures.cases in
     above _ _ _ _ _ _ c.loop-n.invariant c.in_ok-v.v
     (record { inside = c.loop-n-test.true; low = digit.0; high = digit.1; goes = omega (arith, c.in_ok-checked_mul.ensures, c.in_ok-v.ensures) })
-    c.if-max-v.true
+    (omega arith)
 
 pub loop-n-preserved : goal.loop-n-preserved
 loop-n-preserved c =
     let digit = c.if-not-is_ascii_digit.ensures.cases in
     more _ _ _ _ _ _ c.loop-n.invariant c.in_ok-v.v
     (record { inside = c.loop-n-test.true; low = digit.0; high = digit.1; goes = omega (arith, c.in_ok-checked_mul.ensures, c.in_ok-v.ensures) })
-    c.if-max-v.false
+    (omega arith)
 
 pub returns : goal.returns
 returns c =

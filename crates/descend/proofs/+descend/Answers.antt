@@ -20,13 +20,13 @@ pub returns-in_default : goal.returns-in_default
 returns-in_default t c =
     descend_stays c.args.o _ _ _ _ _ _ _ _ _ (omega (arith, c.if-left-lt3.false))
     (sym c.inserts_here.ensures ∙ c.if-inserts_here.false) refl refl refl (omega (arith, c.if-left-lt3.false))
-    (omega (arith, c.if-n-gt-DEEPEST.false)) _ c.reach.result c.reach.ensures c.in_default.is
+    (omega (arith, c.if-n-gt-DEEPEST.false)) _ c.reach.result (c.reach.ensures _ _) c.in_default.is
 
 pub returns-then-left-eq3 : goal.returns-then-left-eq3
 returns-then-left-eq3 t c =
     descend_finishes c.args.o _ _ _ _ _ _ _ _ _ (omega (arith, c.if-left-lt3.false))
     (sym c.inserts_here.ensures ∙ c.if-inserts_here.false) refl refl refl (omega (arith, c.if-left-lt3.false))
-    (omega (arith, c.if-n-gt-DEEPEST.false)) _ c.reach.result c.reach.ensures _ _ _ _ _ _ _
+    (omega (arith, c.if-n-gt-DEEPEST.false)) _ c.reach.result (c.reach.ensures _ _) _ _ _ _ _ _ _
     c.in-Some.is c.if-left-eq3.true c.finish.ensures
 
 pub returns-then-left-lt6 : goal.returns-then-left-lt6
@@ -37,6 +37,6 @@ pub returns : goal.returns
 returns t c =
     descend_goes c.args.o _ _ _ _ _ _ _ _ _ (omega (arith, c.if-left-lt3.false))
     (sym c.inserts_here.ensures ∙ c.if-inserts_here.false) refl refl refl (omega (arith, c.if-left-lt3.false))
-    (omega (arith, c.if-n-gt-DEEPEST.false)) _ c.reach.result c.reach.ensures _ _ _ _ _ _ _ _ _ _ _ _ _ _ _
+    (omega (arith, c.if-n-gt-DEEPEST.false)) _ c.reach.result (c.reach.ensures _ _) _ _ _ _ _ _ _ _ _ _ _ _ _ _ _
     c.in-Some.is c.if-left-lt6.false (part_is c.args.way.now) c.side_by-side.ensures c.next_row-p.ensures
     c.descend-e.ensures c.enter.ensures

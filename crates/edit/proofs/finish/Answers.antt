@@ -9,5 +9,5 @@ returns-then-buf-needed c =
 
 pub returns : goal.returns
 returns c =
-    finish-applied _ _ _ c.args.op _ _ c.message_head.ensures c.size-needed.ensures c.if-buf-needed.false _ c.take_at.ensures _ _
-    c.put-written.ensures _ _ c.settle-settled.ensures
+    finish-applied _ _ _ c.args.op _ _ c.message_head.ensures c.size-needed.ensures c.if-buf-needed.false _ c.take_in.ensures _ _
+    c.put-written.ensures _ _ c.settle_in-settled.ensures

@@ -7,11 +7,11 @@ use Rattle.reads.proofs.Asks.{too_many, keys-room, keys-asked, root_asked}
 use Rattle.reads.proofs.keys.Goals as goal
 
 pub returns-then-not-within : goal.returns-then-not-within
-returns-then-not-within c = too_many _ _ _ _ _ _ _ (keys-room c.args.d.now) (sym c.if-not-within.ensures)
+returns-then-not-within c = too_many _ _ _ _ _ _ _ keys-room (sym c.if-not-within.ensures)
 
 pub returns-then-led-eq0 : goal.returns-then-led-eq0
 returns-then-led-eq0 c =
-    root_asked c.args.d.now _ _ _ _ (sym c.if-not-within.ensures) _ c.in_ok-led.ensures.ok_part c.take_keys_way.ensures c.if-led-eq0.true
+    root_asked _ _ _ _ _ _ _ (sym c.if-not-within.ensures) _ c.in_ok-led.ensures.ok_part c.take_keys_way.ensures c.if-led-eq0.true
     c.keys.ensures
 
 pub returns-in_err-at : goal.returns-in_err-at
@@ -19,11 +19,11 @@ returns-in_err-at c =
     let e = err_from_is_err_and c.from_residual-in_err-at.result c.from_residual-in_err-at.ensures.1 in
     let a = lost _ c.place_at.ensures c.in_err-at.was in
     rw (e.1, e.2 ∙ a.2)
-    (keys-asked c.args.d.now _ _ _ _ (sym c.if-not-within.ensures) _ c.in_ok-led.ensures.ok_part (Err a.0) a.1
+    (keys-asked _ _ _ _ _ _ _ (sym c.if-not-within.ensures) _ c.in_ok-led.ensures.ok_part (Err a.0) a.1
     c.take_keys_way.ensures c.if-led-eq0.false (gives_absent _ _ _ _ _))
 
 pub returns : goal.returns
 returns c =
-    keys-asked c.args.d.now _ _ _ _ (sym c.if-not-within.ensures) _ c.in_ok-led.ensures.ok_part (Ok c.in_ok-at.at)
+    keys-asked _ _ _ _ _ _ _ (sym c.if-not-within.ensures) _ c.in_ok-led.ensures.ok_part (Ok c.in_ok-at.at)
     (led _ c.place_at.ensures c.in_ok-at.was)
     c.take_keys_way.ensures c.if-led-eq0.false (gives_keys _ _ _ _ _ c.next_row-next.ensures _ _ _ _ c.keys-2.ensures)

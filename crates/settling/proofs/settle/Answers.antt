@@ -5,11 +5,11 @@ use borrow.Author.Tests.{not-true, not-false}
 use Rattle.settling.proofs.Rounds.{underway, goes_on, comes_to_rest}
 use Rattle.settling.proofs.settle.Goals as goal
 
-pub returns-then-m-gt-MOST : goal.returns-then-m-gt-MOST
-returns-then-m-gt-MOST c = record {
+pub returns-then-count-gt-MOST : goal.returns-then-count-gt-MOST
+returns-then-count-gt-MOST c = record {
   few = omega arith;
   beyond = λ _. (refl, refl);
-  settles = λ X K. absurd (omega (arith, K.waiting.fit, c.if-m-gt-MOST.true));
+  settles = λ X K. absurd (omega (arith, K.waiting.fit, c.if-count-gt-MOST.true));
 }
 
 pub returns-then-not-r : goal.returns-then-not-r
@@ -28,4 +28,4 @@ loop-settled-preserved c = (
 )
 
 pub loop-settled-init : goal.loop-settled-init
-loop-settled-init c = (omega arith, c.if-m-gt-MOST.false, λ X K. underway X _ K)
+loop-settled-init c = (omega arith, c.if-count-gt-MOST.false, λ X K. underway X _ K)

@@ -11,34 +11,32 @@ use Rattle.settling.proofs.sweep.Goals as goal
 pub loop-i-preserved-then-early : goal.loop-i-preserved-then-early
 loop-i-preserved-then-early c = (
   c.loop-i.invariant.0,
-  c.loop-i.invariant.1,
   λ X K.
-      passes_idle _ X _ _ _ (looks_early _ _ _ c.early.ensures c.if-early.true) (c.loop-i.invariant.2 X K) c.loop-i-test.true refl refl,
+      passes_idle _ X _ _ _ (looks_early _ _ _ c.early.ensures c.if-early.true) (c.loop-i.invariant.1 X K) c.loop-i-test.true refl refl,
 )
 
-pub returns-in_err-m : goal.returns-in_err-m
-returns-in_err-m c =
-    rw c.from_residual-in_err-m.ensures (record {
+pub returns-in_err-count : goal.returns-in_err-count
+returns-in_err-count c =
+    rw c.from_residual-in_err-count.ensures (record {
       fewer = c.loop-i.invariant.0;
-      document = c.loop-i.invariant.1;
+      document = refl;
       sweeps = λ X K.
-          absurd (gone-one _ X _ _ _ c.in_ok-j.ensures (c.loop-i.invariant.2 X K) c.loop-i-test.true _ _ c.take_out.ensures c.in_err-m.was);
+          absurd (gone-one _ X _ _ _ c.in_ok-j.ensures (c.loop-i.invariant.1 X K) c.loop-i-test.true _ _ c.take_out.ensures c.in_err-count.was);
     })
 
 pub returns-in_err-j : goal.returns-in_err-j
 returns-in_err-j c =
     rw c.from_residual.ensures (record {
       fewer = c.loop-i.invariant.0;
-      document = c.loop-i.invariant.1;
-      sweeps = λ X K. absurd (looked _ X _ _ c.in_err-j.ensures (c.loop-i.invariant.2 X K) c.loop-i-test.true);
+      document = refl;
+      sweeps = λ X K. absurd (looked _ X _ _ c.in_err-j.ensures (c.loop-i.invariant.1 X K) c.loop-i-test.true);
     })
 
 pub loop-i-preserved-then-is_dead : goal.loop-i-preserved-then-is_dead
 loop-i-preserved-then-is_dead c = (
-  omega (arith, c.loop-i.invariant.0, c.take_out.ensures.fewer _ c.in_ok-m.was),
-  c.loop-i.invariant.1,
+  omega (arith, c.loop-i.invariant.0, c.take_out.ensures.fewer _ c.in_ok-count.was),
   λ X K.
-      drops _ X _ _ _ c.in_ok-j.ensures (c.loop-i.invariant.2 X K) c.loop-i-test.true _ _ c.take_out.ensures _ c.in_ok-m.was
+      drops _ X _ _ _ c.in_ok-j.ensures (c.loop-i.invariant.1 X K) c.loop-i-test.true _ _ c.take_out.ensures _ c.in_ok-count.was
       (sym c.is_dead.ensures ∙ c.if-is_dead.true),
 )
 
@@ -46,9 +44,8 @@ pub loop-i-preserved : goal.loop-i-preserved
 loop-i-preserved c =
     let dead = sym c.is_dead.ensures ∙ c.if-is_dead.false in (
       c.loop-i.invariant.0,
-      c.loop-i.invariant.1,
       λ X K.
-          let S = c.loop-i.invariant.2 X K in
+          let S = c.loop-i.invariant.1 X K in
           elim c.if-is_none.branch [
             | then-is_none+then-is_taken w ↦
                 rw w.able-is (notes _ X _ _ _ c.in_ok-j.ensures S c.loop-i-test.true dead (c.is_none.ensures ∙ ap not w.if-is_none.true)
@@ -66,9 +63,9 @@ loop-i-preserved c =
 pub returns : goal.returns
 returns c = record {
   fewer = c.loop-i.invariant.0;
-  document = c.loop-i.invariant.1;
-  sweeps = λ X K. ends _ X _ _ (c.loop-i.invariant.2 X K) c.loop-i-test.false;
+  document = refl;
+  sweeps = λ X K. ends _ X _ _ (c.loop-i.invariant.1 X K) c.loop-i-test.false;
 }
 
 pub loop-i-init : goal.loop-i-init
-loop-i-init c = (omega arith, refl, λ X K. begins _ X K)
+loop-i-init c = (omega arith, λ X K. begins _ X K)

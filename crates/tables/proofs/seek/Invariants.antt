@@ -13,7 +13,7 @@ pub record Going (w : Search) (heads keys : List ℕ) (rows : ℕ) (from at : Po
   pub same : sought w heads keys rows at ≡ sought w heads keys rows from
 
 abbrev pub invariant-loop-at : goal.invariant-loop-at
-invariant-loop-at l = Going l.w l.t.heads l.t.keys l.rows l.initial.at l.at
+invariant-loop-at l = Going l.w l.heads l.keys l.rows l.initial.at l.at
 
 abbrev pub decreases-loop-at : goal.decreases-loop-at
 decreases-loop-at l = l.rows - l.at.row

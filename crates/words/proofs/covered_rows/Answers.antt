@@ -1,7 +1,9 @@
 use Prim.Native.Nat.{◌+◌, ◌*◌}
-use mathlib.Core.Path.{refl, sym, ap, ◌∙◌}
-use mathlib.Core.Bool.{not}
+use mathlib.Core.Path.{◌≡◌, refl, sym, ap, ◌∙◌}
+use mathlib.Core.Bool.{true, false, not}
 use native.Mathlib.Omega.{arith}
+use borrow.Author.Tests.{tests}
+use Rattle.std.proofs.Common.{rules}
 use Rattle.meaning.specs.Ids.{uncovered}
 use Rattle.words.proofs.Rows.{row_in, counting_start, counting_no, counting_yes}
 use Rattle.words.proofs.covered_rows.Goals as goal
@@ -20,9 +22,11 @@ loop-i-preserved g c =
     let n = row_in l.i a.n W c.loop-i-test.true in
     elim c.if-covered.branch [
       | then-covered w ↦
+          let yes : c.covered.result ≡ true = search (rules, tests) in
           rw w.r-is (counting_no W p a.from l.i l.r at a.t.now refl (omega arith) l.invariant
-          (ap not (sym c.covered.ensures ∙ w.if-covered.true)))
+          (ap not (sym c.covered.ensures ∙ yes)))
       | else-covered w ↦
+          let no : c.covered.result ≡ false = search (rules, tests) in
           rw w.r-is (counting_yes W p a.from l.i l.r at a.t.now refl (omega arith) l.invariant
-          (ap not (sym c.covered.ensures ∙ w.if-covered.false)))
+          (ap not (sym c.covered.ensures ∙ no)))
     ]

@@ -1,7 +1,9 @@
 use Prim.Native.Nat.{◌+◌, ◌*◌}
-use mathlib.Core.Path.{refl, sym, ap, ◌∙◌}
-use mathlib.Core.Bool.{not}
+use mathlib.Core.Path.{◌≡◌, refl, sym, ap, ◌∙◌}
+use mathlib.Core.Bool.{true, false, not}
 use native.Mathlib.Omega.{arith}
+use borrow.Author.Tests.{tests}
+use Rattle.std.proofs.Common.{rules}
 use Rattle.meaning.specs.Ids.{uncovered}
 use Rattle.words.proofs.Moves.{lowering_start, lowering_more}
 use Rattle.words.proofs.Rows.{row_in, keeping_start, keeping_yes, keeping_no}
@@ -21,11 +23,13 @@ loop-i-preserved g c =
     let n = row_in l.i a.n W c.loop-i-test.true in
     elim c.if-not-covered.branch [
       | then-not-covered+else-loop-k-test w ↦
+          let no : c.covered.result ≡ false = search (rules, tests) in
           rw (w.t-is, w.w-is) (keeping_yes W p a.from a.to l.i l.w at a.t.now l.t c.requires.1 refl (omega arith) l.invariant
-          (ap not (sym c.covered.ensures ∙ w.if-not-covered.true)) w.loop-k.t w.loop-k.k (omega arith) w.loop-k.invariant)
+          (ap not (sym c.covered.ensures ∙ no)) w.loop-k.t w.loop-k.k (omega arith) w.loop-k.invariant)
       | else-not-covered w ↦
+          let yes : c.covered.result ≡ true = search (rules, tests) in
           rw (w.t-is, w.w-is) (keeping_no W p a.from a.to l.i l.w at a.t.now l.t c.requires.1 refl (omega arith) l.invariant
-          (ap not (sym c.covered.ensures ∙ w.if-not-covered.false)))
+          (ap not (sym c.covered.ensures ∙ yes)))
     ]
 
 pub loop-k-init : goal.loop-k-init

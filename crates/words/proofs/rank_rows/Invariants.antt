@@ -3,4 +3,4 @@ use Rattle.words.proofs.Rows.{Ranking}
 use Rattle.words.proofs.rank_rows.Given as goal
 
 abbrev pub invariant-loop-i : goal.invariant-loop-i
-invariant-loop-i g l = Ranking g.row.W l.id l.from l.n l.i l.t
+invariant-loop-i l = Ranking l.w l.id l.from l.n l.i l.t

@@ -3,20 +3,20 @@ use native.Mathlib.Omega.{arith}
 use Rattle.tables.specs.Heads.{marks_said, values-said}
 use Rattle.words.proofs.Rows.{counted_marks}
 use Rattle.forecast.proofs.Goes.{row_none, row_gone}
-use Rattle.forecast.proofs.loss.gone_row.Goals.{then-s-head-gt1032-via-then-s-head-gt1032, then-s-head-gt1032-via-else-s-head-gt1032+then-s-head-gt1542}
+use Rattle.forecast.proofs.loss.gone_row.Goals.{then-s-head-via-then-s-head, then-s-head-via-else-s-head+then-s-head-2}
 use Rattle.forecast.proofs.loss.gone_row.Goals as goal
 
 pub returns-then-s-gt-MARKS_ROOM : goal.returns-then-s-gt-MARKS_ROOM
 returns-then-s-gt-MARKS_ROOM c =
     row_none _ _ _ _ _ (λ keys t r h. omega (arith, c.then-s-gt-MARKS_ROOM.either, h.mark, h.value))
 
-pub returns-then-s-head-gt1032 : goal.returns-then-s-head-gt1032
-returns-then-s-head-gt1032 c =
+pub returns-then-s-head : goal.returns-then-s-head
+returns-then-s-head c =
     let marks = marks_said c.head_at-head.ensures in
     let values = values-said c.head_at-head.ensures in
-    elim c.then-s-head-gt1032.branch [
-      | then-s-head-gt1032-via-then-s-head-gt1032 w ↦ row_none _ _ _ _ _ (λ keys t r h. omega (arith, marks, w.if-s-head-gt1032.true, h.marks, h.marks_fit))
-      | then-s-head-gt1032-via-else-s-head-gt1032+then-s-head-gt1542 w ↦ row_none _ _ _ _ _ (λ keys t r h. omega (arith, values, w.if-s-head-gt1542.true, h.values, h.values_fit))
+    elim c.then-s-head.branch [
+      | then-s-head-via-then-s-head w ↦ row_none _ _ _ _ _ (λ keys t r h. omega (arith, marks, w.if-s-head.true, h.marks, h.marks_fit))
+      | then-s-head-via-else-s-head+then-s-head-2 w ↦ row_none _ _ _ _ _ (λ keys t r h. omega (arith, values, w.if-s-head-2.true, h.values, h.values_fit))
     ]
 
 pub returns : goal.returns

@@ -8,12 +8,12 @@ returns-then-rows-gt-ROWS_ROOM c =
 
 pub returns-then-head-n : goal.returns-then-head-n
 returns-then-head-n c =
-    going_stop _ _ _ _ _ _ _ _ _ c.loop-at.invariant _ c.head_in-head.ensures c.if-head-n.true
+    going_stop _ _ _ _ _ _ _ _ _ c.loop-at.invariant _ c.head_at-head.ensures c.if-head-n.true
 
 pub loop-at-preserved : goal.loop-at-preserved
 loop-at-preserved c =
     rw c.plus-sum.ensures
-    (going_on _ _ _ _ _ _ _ _ _ c.loop-at.invariant _ c.head_in-head.ensures c.loop-at-test.true c.if-head-n.false _ c.gone_row-g.ensures)
+    (going_on _ _ _ _ _ _ _ _ _ c.loop-at.invariant _ c.head_at-head.ensures c.loop-at-test.true c.if-head-n.false _ c.gone_row-g.ensures)
 
 pub returns : goal.returns
 returns c = going_end _ _ _ _ _ _ _ _ _ c.loop-at.invariant c.loop-at-test.false

@@ -4,7 +4,7 @@ use Rattle.forecast.proofs.Goes.{Going}
 use Rattle.forecast.proofs.loss.gone_under.Given as goal
 
 abbrev pub invariant-loop-at : goal.invariant-loop-at
-invariant-loop-at l = Going l.t.heads l.t.marks l.t.values l.rows l.initial.at l.n l.d.at l.at l.sum
+invariant-loop-at l = Going l.heads l.marks l.values l.rows l.initial.at l.n l.d.at l.at l.sum
 
 abbrev pub decreases-loop-at : goal.decreases-loop-at
 decreases-loop-at l = l.rows - l.at.row

@@ -4,4 +4,4 @@ use Rattle.listings.proofs.Elements.{Counting}
 use Rattle.listings.proofs.list.nth_row.Given as goal
 
 abbrev pub invariant-loop-i : goal.invariant-loop-i
-invariant-loop-i l = Counting l.t.heads l.rows l.from l.depth l.index l.i l.n
+invariant-loop-i l = Counting l.heads l.rows l.from l.depth l.index l.i l.n

@@ -4,4 +4,4 @@ use Rattle.listings.proofs.Mapped.{Going}
 use Rattle.listings.proofs.map.extent.Given as goal
 
 abbrev pub invariant-loop-i : goal.invariant-loop-i
-invariant-loop-i l = Going l.t.heads l.t.keys l.depth l.rows l.from l.i l.size
+invariant-loop-i l = Going l.heads l.keys l.depth l.rows l.from l.i l.size

@@ -7,5 +7,5 @@ use Rattle.listings.proofs.map.keys_of.Goals as goal
 pub returns-clause-text : goal.returns-clause-text
 returns-clause-text c =
     let a = c.args in
-    texts_along _ _ (key_text a.t.now.heads a.t.now.keys a.depth) (λ i. i + 1)
-    (λ i. record { tables = a.t; depth = a.depth; at = i }) (λ i. refl) (λ i. refl) a.from a.n
+    texts_along _ _ (key_text a.heads.now a.keys.now a.depth) (λ i. i + 1)
+    (λ i. record { heads = a.heads; keys = a.keys; depth = a.depth; at = i }) (λ i. refl) (λ i. refl) a.from a.n

@@ -1,7 +1,7 @@
 -- The loop's invariant, `Hexing`: the first i bytes are written.
 -- Assumes nothing.
 use Rattle.writers.proofs.Bytes.{Hexing}
-use Rattle.writers.proofs.hex.HexText.put.Given as goal
+use Rattle.writers.proofs.hex.put_bytes.Given as goal
 
 abbrev pub invariant-loop-i : goal.invariant-loop-i
-invariant-loop-i g l = Hexing l.self.words l.n l.initial.buf l.buf l.i
+invariant-loop-i l = Hexing l.words l.n l.initial.buf l.buf l.i

@@ -1,0 +1,2 @@
+-- The laws that proofs of `deeds` cite, a file a subject.
+pub mod Cases
