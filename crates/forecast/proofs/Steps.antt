@@ -32,7 +32,7 @@ use Rattle.message.specs.declared.Deed.{Deed}
 use Rattle.std.specs.Prelude.{Option, None, Some, is_some, Ok}
 use Rattle.std.specs.Option.{MatchOption, IsSomeAnd}
 use Rattle.finder.specs.Looks.{Sees, missing, standing, hanging, HangsBehind, Looks}
-use Rattle.forecast.specs.Weighs.{or_new, Forecast, Weighs, nothing_weighed, marked, carried, WayWeighed}
+use Rattle.forecast.specs.Weighs.{or_new, Alike, Forecast, Weighs, nothing_weighed, marked, carried, WayWeighed}
 use Rattle.forecast.proofs.Weights.{carried_places, carried_marks, marked_marks, marked_places, mark-is}
 use Rattle.forecast.proofs.Ways.{into, locate_at, sees_there, carry_into}
 
@@ -151,7 +151,7 @@ module _ (d : List ℕ) (n : ℕ) (w : Way) (x : Forecast) where
 module _ (h k m v : List ℕ) (rows : ℕ) (n : ℕ) (d : List ℕ) (deed : Deed) (words : List ℕ) (s next : Option Position) (x : Forecast)
     (past : PassesTo h s next) (under : WayWeighed h k m v rows next (n + 1) d deed words x) where
   below : (c : Counts) (rs : List Row) (w : Way) (l : Located) → Holds (four h k m v) c rs → rows ≡ c.rows → Sees rs n s l
-      → words ≡ way_words w → deed ≡ deed_of w → ValidWay w → n + suc (steps w) ≤ 9
+      → words ≡ way_words w → Alike deed (deed_of w) → ValidWay w → n + suc (steps w) ≤ 9
       → Weighs (elements_found_rows d (suc n) w (under_of l)) (under_change d (suc n) w (under_of l)) x
   below c rs w l H q (missing f y) e g ok N =
       let none : next ≡ None = subst (λ s. PassesTo h s next) f past in
@@ -200,7 +200,7 @@ module _ (h k m v : List ℕ) (rows : ℕ) (from : Option Position) (n : ℕ) (d
       X = carried U (is_some s) (eqb (get_or way 2 0) 17) (covered d (get_or way 0 0)) true
 
       go : (c : Counts) (A B : List Row) (p : Spot) (w : Way) → Holds (four h k m v) c (A ++ B) → rows ≡ c.rows → HangsBehind from A
-          → words_in (key_in way) ≡ spot_words p → drop 3 way ≡ way_words w → deed ≡ deed_of w
+          → words_in (key_in way) ≡ spot_words p → drop 3 way ≡ way_words w → Alike deed (deed_of w)
           → GoodSpot p → ValidWay w → n + suc (steps w) ≤ 9
           → Weighs (elements_found_rows d n (into p w) (hanging from B)) (under_change d n (into p w) (hanging from B)) X
       go c A B p w H q f e t g good ok N =
@@ -214,7 +214,7 @@ module _ (h k m v : List ℕ) (rows : ℕ) (from : Option Position) (n : ℕ) (d
           (mark-is d n w (or_new n p L) (elements_found_rows d (suc n) w (under_of L)) x deed on g W')
 
       all : (c : Counts) (A B : List Row) (w : Way) → Holds (four h k m v) c (A ++ B) → rows ≡ c.rows → HangsBehind from A
-          → way ≡ way_words w → deed ≡ deed_of w → ValidWay w → n + steps w ≤ 9
+          → way ≡ way_words w → Alike deed (deed_of w) → ValidWay w → n + steps w ≤ 9
           → Weighs (elements_found_rows d n w (hanging from B)) (under_change d n w (hanging from B)) X
       all c A B (assign a) H q f e g ok N = absurd (omega (arith, long, ap length e))
       all c A B delete H q f e g ok N = absurd (omega (arith, long, ap length e))

@@ -32,8 +32,8 @@ use Rattle.std.specs.Bool.{then_some}
 use Rattle.std.specs.Option.{ok_or}
 use Rattle.forecast.specs.declared.Weight.{Weight}
 use Rattle.finder.specs.Looks.{Sees, missing, standing, hanging, HangsBehind, Looks}
-use Rattle.deeds.specs.Deeds.{is_delete}
-use Rattle.forecast.specs.Weighs.{or_new, plain_given, Forecast, Counted, weight_of, Weighs, nothing_weighed}
+use Rattle.deeds.specs.Deeds.{is_delete, is_insert}
+use Rattle.forecast.specs.Weighs.{or_new, gives_plain, Alike, Forecast, Counted, weight_of, Weighs, nothing_weighed}
 use Rattle.forecast.specs.Weighs.{element_weighed, carried, PlaceWeighed, WayWeighed}
 use Rattle.forecast.proofs.Weights.{is_plain, given_plain, Ends, ends, and_false, map_carry, list_carry, carried_places, carried_marks}
 use Rattle.readers.specs.Hex.{words_in}
@@ -94,16 +94,21 @@ ends_found d n (into_map _ _) rs e = elim e [ ]
 ends_found d n (into_list _ _) rs e = elim e [ ]
 
 -- such a way doesn't end in an insert
-ends_other : (w : Way) (g : Given) → Ends w → D.Insert g ≡ deed_of w → ⊥
+ends_other : (w : Way) (deed : Deed) → Ends w → is_insert deed ≡ true → Alike deed (deed_of w) → ⊥
 unfolding deed_of
-ends_other (assign a) g e q = cc
-ends_other delete g e q = cc
-ends_other (insert _ _) g e q = elim e [ ]
-ends_other (into_map _ _) g e q = elim e [ ]
-ends_other (into_list _ _) g e q = elim e [ ]
+ends_other (assign a) deed e i q = true≢false (sym i ∙ q.inserts)
+ends_other delete deed e i q = true≢false (sym i ∙ q.inserts)
+ends_other (insert _ _) deed e i q = elim e [ ]
+ends_other (into_map _ _) deed e i q = elim e [ ]
+ends_other (into_list _ _) deed e i q = elim e [ ]
 
-element_is : (a : Assigned) (deed : Deed) → deed ≡ D.Insert (given_of a) → Counted (new_change a) (element_weighed deed)
-element_is a deed e = rw e (go a (plain_given (given_of a)) (given_plain a))
+no_insert : (deed : Deed) → ((g : Given) → deed ≡ D.Insert g → ⊥) → is_insert deed ≡ true → ⊥
+no_insert (D.Assign g) other e = false≢true e
+no_insert (D.Insert g) other e = other g refl
+no_insert D.Delete other e = false≢true e
+
+element_is : (a : Assigned) (deed : Deed) → Alike deed (D.Insert (given_of a)) → Counted (new_change a) (element_weighed deed)
+element_is a deed e = rw e.deletes (go a (gives_plain deed) (e.plain ∙ given_plain a))
   where
     go : (a : Assigned) (p : Bool) → p ≡ is_plain a
         → Counted (new_change a) (record { places = 1; marks = 1; values = cond p 1 0; gone_marks = 0; gone_values = 0 })
@@ -138,7 +143,7 @@ module _ (h k m v : List ℕ) (rows : ℕ) (from : Option Position) (n : ℕ) (d
       X = carried (Ok u) (is_some s) (eqb y.len 17) (covered d y.hi) (not (is_delete deed))
 
       go : (c : Counts) (A B : List Row) (p : Spot) (w : Way) → Holds (four h k m v) c (A ++ B) → rows ≡ c.rows → HangsBehind from A
-          → words_in y ≡ spot_words p → way_words w ≡ [] → deed ≡ deed_of w → GoodSpot p
+          → words_in y ≡ spot_words p → way_words w ≡ [] → Alike deed (deed_of w) → GoodSpot p
           → Weighs (elements_found_rows d n (into p w) (hanging from B)) (under_change d n (into p w) (hanging from B)) X
       go c A B p w H q f e z g ok =
           let rs = hanging from B in
@@ -146,14 +151,14 @@ module _ (h k m v : List ℕ) (rows : ℕ) (from : Option Position) (n : ℕ) (d
           let S = look m v c A B (pass_of p) (meant_of p) H q f (spot_agrees n y p e ok) (spot_tells n y p e ok) in
           let W = place.is k c (A ++ B) n p L w H q S z g in
           carry_into d n w rs (Ok u) (is_some s) (not (is_delete deed)) y p e ok (sees_there (A ++ B) n s L S)
-          (ap (λ i. not (is_delete i)) g ∙ ends-makes w (ends w z)) (record { found_is = sym (ends_found d (suc n) w (under_of L) (ends w z)); counted = W })
+          (ap not g.deletes ∙ ends-makes w (ends w z)) (record { found_is = sym (ends_found d (suc n) w (under_of L) (ends w z)); counted = W })
 
       all : (c : Counts) (A B : List Row) (w : Way) → Holds (four h k m v) c (A ++ B) → rows ≡ c.rows → HangsBehind from A
-          → words_in y ≡ way_words w → deed ≡ deed_of w → ValidWay w
+          → words_in y ≡ way_words w → Alike deed (deed_of w) → ValidWay w
           → Weighs (elements_found_rows d n w (hanging from B)) (under_change d n w (hanging from B)) X
       all c A B (assign a) H q f e g ok = absurd (some_words e)
       all c A B delete H q f e g ok = absurd (some_words e)
-      all c A B (insert p a) H q f e g ok = absurd (other (given_of a) g)
+      all c A B (insert p a) H q f e g ok = absurd (no_insert deed other g.inserts)
       all c A B (into_map t w) H q f e g ok =
           go c A B (in_map t) w H q f (ap (λ l. get_or l 0 0 ∷ get_or l 1 0 ∷ get_or l 2 0 ∷ []) e) (sym (ap (drop 3) e)) g ok.0
       all c A B (into_list i w) H q f e g ok =
@@ -162,9 +167,9 @@ module _ (h k m v : List ℕ) (rows : ℕ) (from : Option Position) (n : ℕ) (d
   module _ (given : Given) (inserts : deed ≡ D.Insert given) where
     -- an insert, by what it comes after
     pub insert_weighed : (x : Forecast) → (weight_of x).places ≤ 1 → (weight_of x).marks ≤ 1
-        → ((a : Assigned) → y.len ≡ 18 → deed ≡ D.Insert (given_of a) → Weighs true (new_change a) x)
+        → ((a : Assigned) → y.len ≡ 18 → Alike deed (D.Insert (given_of a)) → Weighs true (new_change a) x)
         → ((c : Counts) (A B : List Row) (a : Assigned) (e : ℕ) → Holds (four h k m v) c (A ++ B) → rows ≡ c.rows → HangsBehind from A
-        → words_in y ≡ spot_words (in_list e) → deed ≡ D.Insert (given_of a)
+        → words_in y ≡ spot_words (in_list e) → Alike deed (D.Insert (given_of a))
         → Weighs (covered d e && is_located (locate_at n (in_list e) (hanging from B)))
         (cond (is_located (locate_at n (in_list e) (hanging from B))) (new_change a) no_change) x)
         → WayWeighed h k m v rows from n d deed (words_in y) x
@@ -176,14 +181,14 @@ module _ (h k m v : List ℕ) (rows : ℕ) (from : Option Position) (n : ℕ) (d
     }
       where
         all : (c : Counts) (A B : List Row) (w : Way) → Holds (four h k m v) c (A ++ B) → rows ≡ c.rows → HangsBehind from A
-            → words_in y ≡ way_words w → deed ≡ deed_of w
+            → words_in y ≡ way_words w → Alike deed (deed_of w)
             → Weighs (elements_found_rows d n w (hanging from B)) (under_change d n w (hanging from B)) x
         all c A B (assign a) H q f e g = absurd (some_words e)
         all c A B delete H q f e g = absurd (some_words e)
         all c A B (insert head a) H q f e g = first a (ap (λ l. get_or l 2 0) e) g
         all c A B (insert (after i) a) H q f e g = other c A B a i H q f e g
-        all c A B (into_map t w) H q f e g = absurd (ends_other w given (ends w (sym (ap (drop 3) e))) (sym inserts ∙ g))
-        all c A B (into_list i w) H q f e g = absurd (ends_other w given (ends w (sym (ap (drop 3) e))) (sym inserts ∙ g))
+        all c A B (into_map t w) H q f e g = absurd (ends_other w deed (ends w (sym (ap (drop 3) e))) (ap is_insert inserts) g)
+        all c A B (into_list i w) H q f e g = absurd (ends_other w deed (ends w (sym (ap (drop 3) e))) (ap is_insert inserts) g)
 
     pub insert_first : y.len ≡ 18 → WayWeighed h k m v rows from n d deed (words_in y) (Ok (element_weighed deed))
     insert_first l =
@@ -218,7 +223,7 @@ module _ (h k m v : List ℕ) (rows : ℕ) (from : Option Position) (n : ℕ) (d
           marks true = element_few deed
           marks false = element_few deed
 
-          go : (b : Bool) (a : Assigned) → deed ≡ D.Insert (given_of a) → Weighs (b && true) (new_change a) (there b)
+          go : (b : Bool) (a : Assigned) → Alike deed (D.Insert (given_of a)) → Weighs (b && true) (new_change a) (there b)
           go true a g = record { found_is = refl; counted = element_is a deed g }
           go false a g = record { found_is = refl; counted = element_is a deed g }
 

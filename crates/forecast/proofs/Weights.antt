@@ -25,7 +25,7 @@ use Rattle.message.specs.declared.Deed.TheVariants as D
 use Rattle.readers.specs.Given.{given_of}
 use Rattle.forecast.specs.declared.Weight.{Weight}
 use Rattle.deeds.specs.Deeds.{is_delete}
-use Rattle.forecast.specs.Weighs.{or_new, GoesAt, SightGone, plain_given, gives_plain, Forecast, Counted, weight_of, Weighs}
+use Rattle.forecast.specs.Weighs.{or_new, GoesAt, SightGone, plain_given, gives_plain, Alike, Forecast, Counted, weight_of, Weighs}
 use Rattle.forecast.specs.Weighs.{nothing_weighed, put_weighed, with_mark, marked, unled, placed, carried, PlaceWeighed}
 
 -- A way that ends here.
@@ -90,13 +90,16 @@ module _ (d : List ℕ) (n : ℕ) (b : Block) (g : Lost) where
       record { places = refl; marks = refl; values = refl; gone_marks = omega (arith, h.marks); gone-values = omega (arith, h.values) }
   given_is empty_list true e h = absurd (true≢false e)
 
-  place_is : (w : Way) → Ends w → GoesAt (gives_plain (deed_of w)) d b g → Counted (run_change d n w b) (place_weight (deed_of w))
+  place_is : (w : Way) (deed : Deed) → Ends w → Alike deed (deed_of w) → GoesAt (gives_plain deed) d b g
+      → Counted (run_change d n w b) (place_weight deed)
   unfolding deed_of run_change
-  place_is (assign a) e h = given_is a (plain_given (given_of a)) (given_plain a) h
-  place_is delete e h = record { places = refl; marks = refl; values = refl; gone_marks = h.marks; gone-values = h.values }
-  place_is (insert _ _) e h = elim e [ ]
-  place_is (into_map _ _) e h = elim e [ ]
-  place_is (into_list _ _) e h = elim e [ ]
+  place_is (assign a) deed e f h = rw f.deletes (given_is a (gives_plain deed) (f.plain ∙ given_plain a) h)
+  place_is delete deed e f h =
+      let goes : GoesAt false d b g = subst (λ p. GoesAt p d b g) f.plain h in
+      rw (f.deletes, f.plain) (record { places = refl; marks = refl; values = refl; gone_marks = goes.marks; gone-values = goes.values })
+  place_is (insert _ _) deed e f h = elim e [ ]
+  place_is (into_map _ _) deed e f h = elim e [ ]
+  place_is (into_list _ _) deed e f h = elim e [ ]
 
 one_mark : (deed : Deed) → cond (is_delete deed) 0 1 ≤ 1
 one_mark (D.Assign g) = omega arith
@@ -109,9 +112,7 @@ pub place_weighed : (h m v : List ℕ) (rows : ℕ) (s : Option Position) (d : L
 place_weighed h m v rows s d deed g u G a = rw a (record {
   few_places = omega arith;
   few_marks = one_mark deed;
-  is = λ k c rs n p t w H q S e f.
-      subst (λ i. Counted (run_change d n w (or_new n p t)) (place_weight d n (or_new n p t) g i)) (sym f)
-      (place_is d n (or_new n p t) g w (ends w e) (subst (λ i. GoesAt (gives_plain i) d (or_new n p t) g) f (G k c rs n p t H q S)));
+  is = λ k c rs n p t w H q S e f. place_is d n (or_new n p t) g w deed (ends w e) f (G k c rs n p t H q S);
 })
 
 -- A place under a key.
@@ -206,11 +207,11 @@ way_deletes (insert p a) = refl
 way_deletes (into_map k w) = way_deletes w
 way_deletes (into_list e w) = way_deletes w
 
-mark_counts : (d : List ℕ) (n : ℕ) (w : Way) (b : Block) (u : Weight) (deed : Deed) → GoesOn w → deed ≡ deed_of w
+mark_counts : (d : List ℕ) (n : ℕ) (w : Way) (b : Block) (u : Weight) (deed : Deed) → GoesOn w → Alike deed (deed_of w)
     → Counted (under_change d (suc n) w b.under) u → Counted (run_change d n w b) (with_mark deed u)
 mark_counts d n w b u deed g e C =
     subst (λ c. Counted c (with_mark deed u)) (sym (run-change d n w b g))
-    (go (is_delete deed) (ap is_delete e ∙ way_deletes w))
+    (go (is_delete deed) (e.deletes ∙ way_deletes w))
   where
     go : (t : Bool) → t ≡ deletes w
         → Counted (both (passing_change w) (under_change d (suc n) w b.under)) (record {
@@ -237,7 +238,7 @@ mark_counts d n w b u deed g e C =
           gone-values = omega (arith, C.gone-values);
         })
 
-pub mark-is : (d : List ℕ) (n : ℕ) (w : Way) (b : Block) (found : Bool) (u : Forecast) (deed : Deed) → GoesOn w → deed ≡ deed_of w
+pub mark-is : (d : List ℕ) (n : ℕ) (w : Way) (b : Block) (found : Bool) (u : Forecast) (deed : Deed) → GoesOn w → Alike deed (deed_of w)
     → Weighs found (under_change d (suc n) w b.under) u → Weighs found (run_change d n w b) (marked u deed)
 unfolding marked
 mark-is d n w b found (Ok u) deed g e W = record { found_is = W.found_is; counted = mark_counts d n w b u deed g e W.counted }

@@ -17,7 +17,7 @@ use Rattle.message.specs.Means.{way_words, deed_of}
 use Rattle.message.specs.declared.Act.{Act}
 use Rattle.message.specs.declared.Deed.{Deed}
 use Rattle.message.specs.declared.Deed.TheVariants as D
-use Rattle.deeds.specs.Deeds.{is_delete}
+use Rattle.deeds.specs.Deeds.{is_delete, is_insert}
 use Rattle.tables.specs.Holding.{Holds, four}
 use Rattle.tables.specs.declared.Counts.{Counts}
 use Rattle.tables.specs.declared.Position.{Position}
@@ -53,6 +53,12 @@ abbrev pub gives_plain : Deed → Bool
 gives_plain (D.Assign g) = plain_given g
 gives_plain (D.Insert g) = plain_given g
 gives_plain D.Delete = false
+
+-- Two deeds are alike in what a weight depends on; the words of a string or of an integer are no part of that.
+pub record Alike (deed other : Deed) : Type 0 where
+  pub deletes : is_delete deed ≡ is_delete other
+  pub inserts : is_insert deed ≡ is_insert other
+  pub plain : gives_plain deed ≡ gives_plain other
 
 abbrev pub SightGone : List ℕ → List ℕ → List ℕ → ℕ → Option Position → Deed → List ℕ → Lost → Type 0
 SightGone h m v rows s deed d g =
@@ -145,7 +151,7 @@ pub record PlaceWeighed (h m v : List ℕ) (rows : ℕ) (s : Option Position) (d
   pub few_places : x.places ≤ 0
   pub few_marks : x.marks ≤ 1
   pub is : (k : List ℕ) (c : Counts) (rs : List Row) (n : ℕ) (p : Spot) (l : Located) (w : Way) → Holds (four h k m v) c rs
-      → rows ≡ c.rows → Sees rs n s l → way_words w ≡ [] → deed ≡ deed_of w → Counted (run_change d n w (or_new n p l)) x
+      → rows ≡ c.rows → Sees rs n s l → way_words w ≡ [] → Alike deed (deed_of w) → Counted (run_change d n w (or_new n p l)) x
 
 -- a way from a place on; n is the depth of the rows that hang there, if any do
 pub record WayWeighed (h k m v : List ℕ) (rows : ℕ) (from : Option Position) (n : ℕ) (d : List ℕ) (deed : Deed) (way : List ℕ)
@@ -153,7 +159,7 @@ pub record WayWeighed (h k m v : List ℕ) (rows : ℕ) (from : Option Position)
   pub few_places : (weight_of x).places ≤ length way
   pub few_marks : (weight_of x).marks ≤ length way
   pub is : (c : Counts) (A B : List Row) (w : Way) → Holds (four h k m v) c (A ++ B) → rows ≡ c.rows
-      → HangsBehind from A → way ≡ way_words w → deed ≡ deed_of w → ValidWay w → n + steps w ≤ 9
+      → HangsBehind from A → way ≡ way_words w → Alike deed (deed_of w) → ValidWay w → n + steps w ≤ 9
       → Weighs (elements_found_rows d n w (hanging from B)) (under_change d n w (hanging from B)) x
 
 -- the way of an operation that does o, from the root on

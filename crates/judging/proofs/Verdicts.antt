@@ -28,7 +28,8 @@ use Rattle.tables.specs.declared.Tables.{Tables}
 use Rattle.tables.specs.Holding.{Holds, four}
 use Rattle.tables.specs.declared.Counts.{Counts}
 use Rattle.tables.specs.declared.Position.{Position}
-use Rattle.forecast.specs.Weighs.{Forecast, weight_of, Weighs, Weighed}
+use Rattle.deeds.specs.Deeds.{is_delete, is_insert}
+use Rattle.forecast.specs.Weighs.{gives_plain, Alike, Forecast, weight_of, Weighs, Weighed}
 use Rattle.forecast.specs.declared.Weight.{Weight}
 use Rattle.keeping.specs.Storing.{Stores}
 use Rattle.judging.specs.Judging.{ReadyJudgement, Small, has_room, goes_down, ready_verdict, top_position, Newer, JudgesReady}
@@ -100,7 +101,10 @@ module _ (h k m v : List ℕ) (c : Counts) (op : Operation) (way : List ℕ) (pa
         let R = rest p (rows_of D) in
         let H = subst (Holds (four h k m v) c) (sym (passed-rest p (rows_of D))) S.rows in
         let d = op.act.deps.at in
-        let w = W.is c (passed p (rows_of D)) R (whole o) H refl f (part ∙ way_part op o e val) (deed_whole op o e val)
+        let q = deed_whole op o e val in
+        let t : Alike op.act.deed (deed_of (whole o)) =
+        record { deletes = ap is_delete q; inserts = ap is_insert q; plain = ap gives_plain q } in
+        let w = W.is c (passed p (rows_of D)) R (whole o) H refl f (part ∙ way_part op o e val) t
         (val.edit.first, val.edit.rest) (omega (arith, val.edit.reach)) in
         let a : elements_found_rows d 1 (whole o) R ≡ not (astray D o) =
         found_top 1 o.top o.way (rows_of D) d ∙ (ap (λ d. elements_found_rows d 1 (whole o) (rows_of D)) e.deps

@@ -88,7 +88,11 @@ pub fn answer(m: &mut Memory, text: &[u8], a: usize) -> Option<usize> {
             if edited.is_some() {
                 return edited;
             }
-            replay_reads::answer(&m.document, text, a).or_else(|| replay_layout::answer(text, a))
+            let d = &m.document;
+            let t = &d.tables;
+            replay_reads::answer(&t.heads, &t.keys, &t.values, d.counts, text, a).or_else(
+                || replay_layout::answer(text, a),
+            )
         }
     }
 }
